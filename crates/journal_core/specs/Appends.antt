@@ -1,0 +1,47 @@
+-- What opening and appending do to file A, and what a stop within them may leave.
+use Rattle.std.specs.Prelude.{ℕ, ◌≡◌, ◌≤◌, ◌+◌, List, [], ◌∷◌, ◌++◌, length, take, drop, Result, OnOk}
+use Rattle.rig.specs.Disk.{IsImage, settled, file_of, with_file}
+use Rattle.rig.specs.Told.{Moment, History, Since, reads_of}
+use Rattle.rig.specs.declared.side.Side.TheVariants.{A}
+use Rattle.journal_core.specs.Records.{contents, spelled}
+
+-- File A is whole records, all of it on the disk, and has so many bytes.
+pub record IsReady (end : ℕ) (now : Moment) : Type 0 where
+  pub kept : file_of A now.disk ≡ settled (reads_of A now)
+  pub whole : (contents (reads_of A now)).rest ≡ []
+  pub size : end ≡ length (reads_of A now)
+
+-- nothing but file A has changed
+abbrev pub IsElsewhereSame : Moment → Moment → Type 0
+IsElsewhereSame old moment = moment ≡ record old { disk = with_file A (file_of A moment.disk) old.disk }
+
+-- A stop while the payload is added to these bytes leaves them, and behind them a torn rest: at most as
+-- many bytes as the payload's record has, whatever they are. So the image stands for what the bytes do,
+-- and behind it for what the torn rest is taken for.
+pub record IsTorn (payload bytes image : List ℕ) : Type 0 where
+  pub front : take (length bytes) image ≡ bytes
+  pub most : length image ≤ length bytes + length (spelled payload)
+  pub stands : (contents image).payloads ≡ (contents bytes).payloads ++ (contents (drop (length bytes) image)).payloads
+
+-- a moment of an append that began at the old one
+pub record IsWithinAppend (payload : List ℕ) (old moment : Moment) : Type 0 where
+  pub elsewhere : IsElsewhereSame old moment
+  pub images : (image : List ℕ) → IsImage (file_of A moment.disk) image → IsTorn payload (reads_of A old) image
+
+-- The payload was added. A call that failed leaves a moment of the append.
+pub record IsAppended {T E : Type 0} (payload : List ℕ) (result : Result T E) (old new : History) : Type 0 where
+  pub steps : Since (IsWithinAppend payload old.now) old new
+  pub left : IsWithinAppend payload old.now new.now
+  pub kept : OnOk result (file_of A new.now.disk ≡ settled (reads_of A old.now ++ spelled payload))
+  pub stands : OnOk result ((contents (reads_of A new.now)).payloads ≡ (contents (reads_of A old.now)).payloads ++ payload ∷ [])
+
+-- a moment of an opening
+pub record IsWithinOpening (old moment : Moment) : Type 0 where
+  pub elsewhere : IsElsewhereSame old moment
+  pub images : (image : List ℕ) → IsImage (file_of A moment.disk) image → IsImage (file_of A old.disk) image
+
+-- The empty file is on the disk.
+pub record IsOpened {T E : Type 0} (result : Result T E) (old new : History) : Type 0 where
+  pub steps : Since (IsWithinOpening old.now) old new
+  pub left : IsWithinOpening old.now new.now
+  pub kept : OnOk result (file_of A new.now.disk ≡ settled [])

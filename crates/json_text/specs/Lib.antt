@@ -1,0 +1,13 @@
+pub mod Bytes
+pub mod Lexical
+pub mod Grammar
+pub mod Machine
+pub mod Places
+pub mod Steps
+pub mod Nodes
+pub mod Entries
+pub mod Building
+pub mod Reading
+pub mod Trees
+pub mod Text
+pub mod Splitting

@@ -1,0 +1,169 @@
+use crate::{JsonFault, Kind, Tree, put_text};
+use kinds::Bytes;
+use std::alloc::Global;
+use std::test::Fail;
+
+/// Whether the bytes end as told: read, not JSON at a place, or too deep at a place.
+#[derive(Clone, Copy, Debug, PartialEq, Eq)]
+enum Answer {
+    Reads,
+    NotJson(u64),
+    TooDeep(u64),
+    NoMemory,
+}
+
+fn answer_to(alloc: Global, bytes: &[u8]) -> Answer {
+    match Tree::read(alloc, bytes) {
+        Ok(_tree) => Answer::Reads,
+        Err(JsonFault::NotJson { at }) => Answer::NotJson(at),
+        Err(JsonFault::TooDeep { at }) => Answer::TooDeep(at),
+        Err(JsonFault::Memory) => Answer::NoMemory,
+    }
+}
+
+#[test]
+fn places(rt: HostRuntime) -> Result<(), Fail> {
+    let rows: [(&[u8], Answer); 44] = [
+        (b"nul", Answer::NotJson(3)),
+        (b"01", Answer::NotJson(1)),
+        (b"{\"a\":1,}", Answer::NotJson(7)),
+        (b"\"\\ud800\"", Answer::NotJson(7)),
+        (b"", Answer::NotJson(0)),
+        (b" \t\r\n", Answer::NotJson(4)),
+        (b" \t\r\nnull \t\r\n", Answer::Reads),
+        (b"nullx", Answer::NotJson(4)),
+        (b"true", Answer::Reads),
+        (b"falsy", Answer::NotJson(4)),
+        (b"-0", Answer::Reads),
+        (b"-", Answer::NotJson(1)),
+        (b"1E+2", Answer::Reads),
+        (b"1.", Answer::NotJson(2)),
+        (b".5", Answer::NotJson(0)),
+        (b"+1", Answer::NotJson(0)),
+        (b"0e", Answer::NotJson(2)),
+        (b"1.50e-3 ", Answer::Reads),
+        (b"[1 2]", Answer::NotJson(3)),
+        (b"[1,]", Answer::NotJson(3)),
+        (b"[]]", Answer::NotJson(2)),
+        (b"[}", Answer::NotJson(1)),
+        (b"{\"a\":1,\"a\":[2,{}]}", Answer::Reads),
+        (b"{\"a\" 1}", Answer::NotJson(5)),
+        (b"{1:2}", Answer::NotJson(1)),
+        (b"{,}", Answer::NotJson(1)),
+        (b"\"\\ud83d\\ude00\"", Answer::Reads),
+        (b"\"\\udc00\"", Answer::NotJson(4)),
+        (b"\"\\ud800x\"", Answer::NotJson(7)),
+        (b"\"\\ud800\\u0041\"", Answer::NotJson(9)),
+        (b"\"\\uFFFF\"", Answer::Reads),
+        (b"\"\\x\"", Answer::NotJson(2)),
+        (b"\"\x01\"", Answer::NotJson(1)),
+        (b"\"\x7f\"", Answer::Reads),
+        (b"\"\xc3\xa9\"", Answer::Reads),
+        (b"\"\xc0\x80\"", Answer::NotJson(1)),
+        (b"\"\xe0\x9f\xbf\"", Answer::NotJson(2)),
+        (b"\"\xe0\xa0\x80\"", Answer::Reads),
+        (b"\"\xed\xa0\x80\"", Answer::NotJson(2)),
+        (b"\"\xf0\x90\x80\x80\"", Answer::Reads),
+        (b"\"\xf4\x90\x80\x80\"", Answer::NotJson(2)),
+        (b"\"\x80\"", Answer::NotJson(1)),
+        (b"\xef\xbb\xbf1", Answer::NotJson(0)),
+        (b"\"abc", Answer::NotJson(4)),
+    ];
+    for (bytes, expected) in rows {
+        assert_eq!(&rt; answer_to(rt.alloc(), bytes), expected);
+    }
+    Ok(())
+}
+
+#[test]
+fn depth(rt: HostRuntime) -> Result<(), Fail> {
+    let open = [b'['; 65];
+    assert_eq!(&rt; answer_to(rt.alloc(), &open[..64]), Answer::NotJson(64));
+    assert_eq!(&rt; answer_to(rt.alloc(), &open), Answer::TooDeep(64));
+    Ok(())
+}
+
+#[test]
+fn nodes(rt: HostRuntime) -> Result<(), Fail> {
+    let tree = Tree::read(rt.alloc(), b" {\"p\" : [1.50, true, {}], \"q\":null} ")?;
+    let root = tree.root();
+    assert!(&rt; tree.kind(root) == Kind::Object);
+    assert_eq!(&rt; tree.len(root), 2);
+    let Some(list) = tree.item(root, 0) else {
+        return Err(Fail::new("no node"))
+    };
+    assert!(&rt; tree.kind(list) == Kind::List);
+    assert_eq!(&rt; tree.len(list), 3);
+    assert!(&rt; tree.item(list, 3).is_none());
+    let Some(key) = tree.key(root, 1) else {
+        return Err(Fail::new("no node"))
+    };
+    assert!(&rt; tree.kind(key) == Kind::Text);
+    assert!(&rt; tree.key(root, 2).is_none());
+    Ok(())
+}
+
+#[test]
+fn slices(rt: HostRuntime) -> Result<(), Fail> {
+    let tree = Tree::read(rt.alloc(), b" {\"p\":1.50,\"q\" : 1e2 } ")?;
+    let root = tree.root();
+    assert_eq!(&rt; tree.slice(root), b"{\"p\":1.50,\"q\" : 1e2 }".as_slice());
+    for (name, expected) in [("p", "1.50"), ("q", "1e2")] {
+        let Some(value) = tree.member(root, name.as_bytes()) else {
+            return Err(Fail::new("no member"))
+        };
+        assert_eq!(&rt; tree.slice(value), expected.as_bytes());
+    }
+    assert!(&rt; tree.member(root, b"r").is_none());
+    Ok(())
+}
+
+#[test]
+fn members(rt: HostRuntime) -> Result<(), Fail> {
+    let tree = Tree::read(
+        rt.alloc(),
+        b"{\"a\":1,\"\":2,\"\\u0061\":3,\"b\":{\"a\":4},\"a\":[5],\"\\ud83d\\ude00\":6}",
+    )?;
+    let root = tree.root();
+    for (name, expected) in [
+        ("a", "[5]"),
+        ("", "2"),
+        ("b", "{\"a\":4}"),
+        ("\u{1f600}", "6"),
+    ] {
+        let Some(value) = tree.member(root, name.as_bytes()) else {
+            return Err(Fail::new("no member"))
+        };
+        assert_eq!(&rt; tree.slice(value), expected.as_bytes());
+    }
+    Ok(())
+}
+
+#[test]
+fn texts(rt: HostRuntime) -> Result<(), Fail> {
+    let tree = Tree::read(
+        rt.alloc(),
+        b"\"\\\"\\\\\\/\\b\\f\\n\\r\\t\\u0041\\u00e9\\u20AC\\ud83d\\ude00x\"",
+    )?;
+    let root = tree.root();
+    if tree.kind(root) != Kind::Text {
+        return Err(Fail::new("no text"));
+    }
+    let text = tree.text_of(root)?;
+    assert_eq!(&rt;
+        text.as_slice(),
+        "\"\\/\u{8}\u{c}\n\r\tA\u{e9}\u{20ac}\u{1f600}x".as_bytes()
+    );
+    Ok(())
+}
+
+#[test]
+fn written(rt: HostRuntime) -> Result<(), Fail> {
+    let mut out = Bytes::new(rt.alloc());
+    put_text(&mut out, "a\"\\\n\u{1f}\u{7f}\u{e9}\u{1f600}".as_bytes())?;
+    assert_eq!(&rt;
+        out.as_slice(),
+        "\"a\\\"\\\\\\u000a\\u001f\u{7f}\u{e9}\u{1f600}\"".as_bytes()
+    );
+    Ok(())
+}

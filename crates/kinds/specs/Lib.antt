@@ -1,0 +1,4 @@
+pub mod Answer
+pub mod Limits
+pub mod Refusal
+pub mod Seen

@@ -1,0 +1,18 @@
+ghost use Rattle.std.specs.Prelude.{◌≡◌};
+ghost use Rattle.kinds.specs.Limits.{shipped};
+
+/// How much a server keeps before it turns new work away.
+#[derive(Clone, Copy, Debug, PartialEq, Eq)]
+pub struct Limits {
+    /// Bytes of events, results and remembered ids.
+    pub kept: u64,
+}
+
+impl Limits {
+    /// The limits that the shipped programs run with.
+    pub fn shipped() -> Self
+        ensures { result ≡ shipped }
+    {
+        Limits { kept: 1 << 30 }
+    }
+}

@@ -1,0 +1,17 @@
+use std::alloc::{AllocError, AllocFailed};
+
+/// No memory was to be had. No contract says when this comes, and each exact promise yields to it.
+#[derive(Clone, Copy, Debug, PartialEq, Eq)]
+pub struct Memory;
+
+impl From<AllocError> for Memory {
+    fn from(_error: AllocError) -> Self {
+        Memory
+    }
+}
+
+impl<T: Drop> From<AllocFailed<T>> for Memory {
+    fn from(_error: AllocFailed<T>) -> Self {
+        Memory
+    }
+}

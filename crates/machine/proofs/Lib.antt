@@ -1,0 +1,2 @@
+mod EventsLemmas
+mod Fresh

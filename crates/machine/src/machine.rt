@@ -1,0 +1,201 @@
+ghost use Rattle.std.specs.Prelude.{◌≡◌, ◌<◌, ◌≤◌, ◌+◌, ◌^◌, IfOk, OnOk, MatchResult, Option, Some, None, [], length};
+ghost use Rattle.kinds.specs.Seen.{weight_of};
+ghost use Rattle.kinds.specs.declared.input.Input.TheVariants.{Events};
+ghost use Rattle.machine_model.specs.State.{empty, at_moment, moment_at, greatest, live};
+ghost use Rattle.machine_model.specs.Machine.{Accepts, count_input, new_event, on_event, on_events, refusal, refusal_of_events, repeats, spent, step};
+
+use intake::Seen;
+use kinds::{EventIn, Input, Items, Limits, Memory, Out, Refusal, ids_answer};
+use std::alloc::Global;
+use std::marker::Model;
+
+/// The last millisecond of the year 9999, as which a later clock reading counts.
+const LAST_MOMENT: u64 = 253_402_300_799_999;
+
+/// The count from which on no input is taken: 2^61.
+const SPENT: u64 = 1 << 61;
+
+/// The machine between two inputs. Contracts see it as the documented machine's state.
+#[derive(Drop)]
+pub struct Machine {
+    alloc: Global,
+    limits: Limits,
+    moment: u64,
+    inputs: u64,
+    events: u64,
+    seen: Seen,
+}
+
+impl Model for Machine {
+    ghost use Rattle.machine_model.specs.State.{State};
+    ghost use Rattle.machine_model.specs.Sound.{IsSound};
+
+    ghost Value = { State };
+
+    ghost view = { λ m. record { limits = m.limits; moment = m.moment; inputs = m.inputs; events = m.events; seen = m.seen } };
+
+    ghost invariant = { λ m. IsSound (record { limits = m.limits; moment = m.moment; inputs = m.inputs; events = m.events; seen = m.seen }) };
+}
+
+impl Machine {
+    /// The machine before its first input, with its limits.
+    pub fn empty(alloc: Global, limits: Limits) -> Result<Self, Memory>
+        ensures { IfOk result (λ m. m ≡ empty limits) }
+    {
+        Ok(Machine {
+            alloc,
+            limits,
+            moment: 0,
+            inputs: 0,
+            events: 0,
+            seen: Seen::empty(alloc),
+        })
+    }
+
+    /// The moment of the last input, in milliseconds since 1970.
+    pub fn moment(&self) -> u64
+        ensures { result ≡ self.now.moment }
+    {
+        self.moment
+    }
+
+    /// How many inputs were taken.
+    pub fn inputs(&self) -> u64
+        ensures { result ≡ self.now.inputs }
+    {
+        self.inputs
+    }
+
+    /// How many numbers were given to events.
+    pub fn events(&self) -> u64
+        ensures { result ≡ self.now.events }
+    {
+        self.events
+    }
+
+    /// The greatest count of names and inputs.
+    pub fn greatest(&self) -> u64
+        ensures { result ≡ greatest self.now }
+    {
+        self.inputs.max(self.events)
+    }
+
+    /// How many runs have not ended.
+    pub fn live(&self) -> u64
+        ensures { result ≡ live self.now }
+    {
+        0
+    }
+
+    /// Whether the machine as it stands takes an input, and if not, the first reason why.
+    pub fn check(&self, input: &Input) -> Result<(), Refusal>
+        ensures { MatchResult result (λ _. refusal self.now input.now ≡ None) (λ cause. refusal self.now input.now ≡ Some cause) }
+    {
+        let greatest = self.greatest();
+        if greatest >= SPENT {
+            return Err(Refusal::NumbersSpent { greatest });
+        }
+        match input {
+            Input::Events { .. } => self.check_room(),
+        }
+    }
+
+    // Whether what is kept leaves room for new work.
+    fn check_room(&self) -> Result<(), Refusal>
+        ensures { MatchResult result (λ _. refusal_of_events self.now ≡ None) (λ cause. refusal_of_events self.now ≡ Some cause) }
+    {
+        let kept = self.seen.weight();
+        if kept >= self.limits.kept {
+            Err(Refusal::KeptFull { kept })
+        } else {
+            Ok(())
+        }
+    }
+
+    /// Takes one input, and answers the machine after it with what is to be said, in order. Want of memory
+    /// spends the machine.
+    pub fn step(self, input: Input) -> Result<(Self, Items<Out>), Memory>
+        requires { Accepts self input }
+        ensures { IfOk result (λ turn. (turn.0 ≡ (step self input).state) × (turn.1 ≡ (step self input).outs)) }
+    {
+        match input {
+            Input::Events { at, events } => self.take_events(at, events.as_slice()),
+        }
+    }
+
+    // Takes the events of one request, and answers their ids.
+    #[tactic(auto, unfolding(machine_model::specs::Machine::act))]
+    fn take_events(mut self, at: u64, events: &[EventIn]) -> Result<(Self, Items<Out>), Memory>
+        requires { greatest self < spent }
+        ensures { IfOk result (λ turn. (turn.0 ≡ (step self (Events at events.now)).state) × (turn.1 ≡ (step self (Events at events.now)).outs)) }
+    {
+        self.advance(at);
+        self.count_input();
+        let numbers = self.on_events(events)?;
+        let mut outs = Items::new(self.alloc);
+        outs.push(ids_answer(self.alloc, numbers.as_slice())?)?;
+        Ok((self, outs))
+    }
+
+    // Time goes on to the moment of an input with this clock reading.
+    fn advance(&mut self, reading: u64)
+        ensures { self.new ≡ at_moment (moment_at reading self.old) self.old }
+    {
+        self.moment = self.moment.max(reading.min(LAST_MOMENT));
+        self.seen.forget(self.moment);
+    }
+
+    fn count_input(&mut self)
+        requires { self.old.inputs < spent }
+        ensures { self.new ≡ count_input self.old }
+    {
+        self.inputs += 1;
+    }
+
+    // Takes the events of a request in order, and answers the number of each.
+    fn on_events(&mut self, events: &[EventIn]) -> Result<Items<u64>, Memory>
+        requires { self.old.events < spent }
+        ensures { IfOk result (λ numbers. on_events events.now (record { state = self.old; numbers = [] }) ≡ record { state = self.new; numbers = numbers }) }
+    {
+        let mut numbers = Items::new(self.alloc);
+        for event in events {
+            self.on_event(event, &mut numbers)?;
+        }
+        Ok(numbers)
+    }
+
+    // Takes one event, and adds its number.
+    fn on_event(&mut self, event: &EventIn, numbers: &mut Items<u64>) -> Result<(), Memory>
+        requires { self.old.events + 1 < 2 ^ 64 }
+        ensures { OnOk result (on_event event.now (record { state = self.old; numbers = numbers.old }) ≡ record { state = self.new; numbers = numbers.new }) }
+    {
+        let number = match self.repeated(event) {
+            Some(number) => number,
+            None => self.new_event(event)?,
+        };
+        numbers.push(number)
+    }
+
+    // The number of the event that this one repeats.
+    fn repeated(&self, event: &EventIn) -> Option<u64>
+        ensures { result ≡ repeats event.now self.now }
+    {
+        let id = event.id.as_ref()?;
+        self.seen.find(id.as_slice(), self.moment)
+    }
+
+    // Gives the next number to an event that repeats no other, and remembers its id.
+    fn new_event(&mut self, event: &EventIn) -> Result<u64, Memory>
+        requires unseen { repeats event.now self.old ≡ None }
+        requires room { self.old.events + 1 < 2 ^ 64 }
+        ensures number { IfOk result (λ number. number ≡ self.old.events + 1) }
+        ensures noted { OnOk result (self.new ≡ new_event event.now self.old) }
+    {
+        let number = self.events + 1;
+        if let Some(id) = &event.id {
+            self.seen.note(id.as_slice(), number, self.moment)?;
+        }
+        self.events = number;
+        Ok(number)
+    }
+}

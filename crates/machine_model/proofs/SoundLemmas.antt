@@ -1,0 +1,77 @@
+-- Each small change of the machine keeps a state sound, and so does a step.
+use Rattle.std.proofs.Common.{◌≡◌, ℕ, ◌+◌, ◌<◌, ◌≤◌, true, not, List, [], ◌∷◌, ◌++◌, Option, Some, None, arith}
+use Rattle.std.specs.List.{AllByRecursion}
+use Rattle.kinds.specs.Seen.{has_id, insert_seen, is_remembered, remembered, without_id}
+use Rattle.kinds.specs.declared.event.EventIn.{EventIn}
+use Rattle.kinds.specs.declared.input.Input.{Input}
+use Rattle.kinds.specs.declared.input.Input.TheVariants.{Events}
+use Rattle.kinds.specs.declared.limits.Limits.{Limits}
+use Rattle.kinds.specs.declared.seen.SeenEntry.{SeenEntry}
+use Rattle.machine_model.specs.Machine.{Taking, act, count_input, note_id, on_event, on_events, reading, repeats, state_after, step, take_event}
+use Rattle.machine_model.specs.Sound.{AreApart, IsEntry, IsSound}
+use Rattle.machine_model.specs.State.{State, at_moment, empty, last_moment, moment_at}
+use Rattle.machine_model.proofs.SeenLemmas.{all-both, all-filter, all-last, all-weaker, apart-filter, apart-last, filter-passes, insert-above, other-id}
+
+pub sound-empty : (limits : Limits) → IsSound (empty limits)
+sound-empty limits = record { moment = omega arith; entries = tt; apart = tt }
+
+pub sound-at_moment : (moment : ℕ) (s : State) → IsSound s → s.moment ≤ moment → moment ≤ last_moment → IsSound (at_moment moment s)
+sound-at_moment moment s sound later within = record {
+  moment = within;
+  entries = all-both (IsEntry s.events s.moment) (λ e. is_remembered moment e ≡ true) (IsEntry s.events moment) (remembered moment s.seen)
+      (λ e old kept. record { numbered = old.numbered; dated = omega (arith, old.dated, later); remembered = kept })
+      (all-filter _ (is_remembered moment) s.seen sound.entries) (filter-passes (is_remembered moment) s.seen);
+  apart = apart-filter (is_remembered moment) s.seen sound.apart;
+}
+
+pub sound-count_input : (s : State) → IsSound s → IsSound (count_input s)
+sound-count_input s sound = record { moment = sound.moment; entries = sound.entries; apart = sound.apart }
+
+-- one more number, so that each entry is below it
+more_numbered : (s : State) (e : SeenEntry) → IsEntry s.events s.moment e → IsEntry (s.events + 1) s.moment e
+more_numbered s e entry = record { numbered = omega (arith, entry.numbered); dated = entry.dated; remembered = entry.remembered }
+
+-- the state after an event that repeats no other
+abbrev pub after_new : Option (List ℕ) → State → State
+after_new id s = record s { events = s.events + 1; seen = note_id id (s.events + 1) s }
+
+pub sound-after_new : (id : Option (List ℕ)) (s : State) → IsSound s → IsSound (after_new id s)
+sound-after_new None s sound = record { moment = sound.moment; entries = all-weaker _ _ s.seen (more_numbered s) sound.entries; apart = sound.apart }
+sound-after_new (Some id) s sound =
+    let entry : SeenEntry = record { id = id; number = s.events + 1; moment = s.moment } in
+    let others : List SeenEntry = without_id id s.seen in
+    let kept : AllByRecursion (IsEntry s.events s.moment) others = all-filter _ (λ e. not (has_id id e)) s.seen sound.entries in
+    let differ : AllByRecursion (λ (e : SeenEntry). not (has_id id e) ≡ true) others = filter-passes (λ e. not (has_id id e)) s.seen in
+    let below : AllByRecursion (λ (e : SeenEntry). e.number < entry.number) others = all-weaker _ _ others (λ (e : SeenEntry) (h : IsEntry s.events s.moment e). omega (arith, h.numbered)) kept in
+    let last : insert_seen entry others ≡ others ++ entry ∷ [] = insert-above entry others below in
+    let now : IsEntry (s.events + 1) s.moment entry = record { numbered = omega arith; dated = omega arith; remembered = grind arith } in
+    let apart : AreApart (others ++ entry ∷ []) = apart-last entry others (apart-filter _ s.seen sound.apart) (all-both _ _ _ others (λ (e : SeenEntry) (h : e.number < entry.number) (k : not (has_id id e) ≡ true). (h, other-id id e k)) below differ) in
+    record {
+      moment = sound.moment;
+      entries = rw last (all-last _ others entry (all-weaker _ _ others (more_numbered s) kept) now);
+      apart = rw last apart;
+    }
+
+pub sound-on_event : (event : EventIn) (taking : Taking) → IsSound taking.state → IsSound (on_event event taking).state
+sound-on_event event taking sound =
+    elim (repeats event taking.state) as (λ found. IsSound (take_event event found taking).state) [ Some number ↦ sound | None ↦ sound-after_new event.id taking.state sound ]
+
+pub sound-on_events : (events : List EventIn) (taking : Taking) → IsSound taking.state → IsSound (on_events events taking).state
+unfolding on_events
+sound-on_events [] taking sound = sound
+sound-on_events (event ∷ events) taking sound = sound-on_events events (on_event event taking) (sound-on_event event taking sound)
+
+-- the state in which an input acts
+pub sound-before_act : (s : State) (input : Input) → IsSound s → IsSound (count_input (at_moment (moment_at (reading input) s) s))
+sound-before_act s input sound =
+    let later : s.moment ≤ moment_at (reading input) s = omega arith in
+    let within : moment_at (reading input) s ≤ last_moment = omega (arith, sound.moment) in
+    sound-count_input _ (sound-at_moment (moment_at (reading input) s) s sound later within)
+
+pub sound-step : (s : State) (input : Input) → IsSound s → IsSound (step s input).state
+unfolding act
+sound-step s (Events at events) sound = sound-on_events events _ (sound-before_act s (Events at events) sound)
+
+pub sound-state_after : (inputs : List Input) (s : State) → IsSound s → IsSound (state_after s inputs)
+sound-state_after [] s sound = sound
+sound-state_after (input ∷ inputs) s sound = sound-state_after inputs (step s input).state (sound-step s input sound)

@@ -1,0 +1,64 @@
+use rig::{ReadFailed, Sink, Source, WriteFailed};
+use std::io::{Read, Write};
+
+/// Standard input, or another reader. It tells nothing of its bytes, and counts each failed read.
+#[derive(Drop)]
+pub struct HostSource<R: Read> {
+    reader: R,
+    faults: u64,
+}
+
+impl<R: Read> HostSource<R> {
+    pub fn new(reader: R) -> Self {
+        HostSource { reader, faults: 0 }
+    }
+}
+
+impl<R: Read> Source for HostSource<R> {
+    ghost use Rattle.std.specs.Prelude.{None};
+
+    ghost flow = { λ _. None };
+
+    ghost faults = { λ s. s.faults };
+
+    fn read(&mut self, buf: &mut [u8]) -> Result<usize, ReadFailed> {
+        match self.reader.read(buf) {
+            Ok(count) => Ok(count),
+            Err(_) => {
+                self.faults = self.faults.saturating_add(1);
+                Err(ReadFailed)
+            }
+        }
+    }
+}
+
+/// Standard output, or another writer. It tells nothing of its bytes, and counts each failed write.
+#[derive(Drop)]
+pub struct HostSink<W: Write> {
+    writer: W,
+    faults: u64,
+}
+
+impl<W: Write> HostSink<W> {
+    pub fn new(writer: W) -> Self {
+        HostSink { writer, faults: 0 }
+    }
+}
+
+impl<W: Write> Sink for HostSink<W> {
+    ghost use Rattle.std.specs.Prelude.{None};
+
+    ghost written = { λ _. None };
+
+    ghost faults = { λ s. s.faults };
+
+    fn write(&mut self, bytes: &[u8]) -> Result<(), WriteFailed> {
+        match self.writer.write_all(bytes) {
+            Ok(()) => Ok(()),
+            Err(_) => {
+                self.faults = self.faults.saturating_add(1);
+                Err(WriteFailed)
+            }
+        }
+    }
+}

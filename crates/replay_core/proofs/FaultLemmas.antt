@@ -1,0 +1,13 @@
+-- Counts of the sink's faults over calls in a row.
+use Rattle.std.proofs.Common.{ℕ, ◌≤◌, inl, inr, Result, arith}
+use Rattle.rig.specs.Faults.{HasRisen}
+use Rattle.replay_core.specs.Run.{CountsFault}
+use Rattle.replay_core.specs.declared.end.ReplayEnd.{ReplayEnd}
+
+risen-after : (old mid new : ℕ) → old ≤ mid → HasRisen mid new → HasRisen old new
+risen-after old mid new h (inl k) = inl (omega arith)
+risen-after old mid new h (inr k) = inr k
+
+-- a call after others
+pub counts-after : {X : Type 0} (old mid new : ℕ) (result : Result X ReplayEnd) → old ≤ mid → CountsFault mid new result → CountsFault old new result
+counts-after old mid new result h k = (omega (arith, k.0), λ is. risen-after old mid new h (k.1 is))

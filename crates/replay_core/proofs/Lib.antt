@@ -1,0 +1,4 @@
+mod FaultLemmas
+mod PiecesLemmas
+mod ReplayLemmas
+mod RunLemmas

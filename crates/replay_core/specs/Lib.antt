@@ -1,0 +1,4 @@
+pub mod Line
+pub mod Pieces
+pub mod Replay
+pub mod Run

@@ -1,0 +1,131 @@
+ghost use Rattle.std.specs.Prelude.{◌≡◌, ◌∷◌, [], IfOk};
+ghost use Rattle.std.specs.List.{list_all};
+ghost use Rattle.std.specs.Option.{option_copied, option_map};
+ghost use Rattle.replay_core.specs.Line.{Split, at_reading, event_named, event_of, id_of, is_name, is_name_byte, is_passed, read_line, split_word, timed_line};
+ghost use Rattle.replay_core.specs.Pieces.{text_of_line};
+ghost use Rattle.kinds.specs.declared.input.Input.TheVariants.{Events};
+ghost use Rattle.replay_core.specs.declared.line.Line.TheVariants.{Input as TakesInput};
+
+use crate::bytes::find_byte;
+use kinds::{Bytes, EventIn, Input, Items, Memory};
+use std::alloc::Global;
+use text_num::read_u64;
+
+/// What a line of a script says.
+#[derive(Drop)]
+pub enum Line {
+    /// An empty line or a comment, which is passed over.
+    Passed,
+    /// An input of the machine.
+    Input(Input),
+}
+
+/// What stands in a line before the byte that ends it.
+pub fn text_of_line(line: &[u8]) -> &[u8]
+    ensures { result.now ≡ text_of_line line.now }
+{
+    match find_byte(line, b'\n') {
+        Some(place) => &line[..place],
+        None => line,
+    }
+}
+
+/// Reads a line without the byte that ends it; `None` where it is outside the grammar.
+#[tactic(auto, unfolding(crate::specs::Line::read_line))]
+pub fn read_line(alloc: Global, text: &[u8]) -> Result<Option<Line>, Memory>
+    ensures { IfOk result (λ line. line ≡ read_line text.now) }
+{
+    match text.first() {
+        None | Some(b'#') => Ok(Some(Line::Passed)),
+        Some(_) => timed_line(alloc, text),
+    }
+}
+
+// `MS` and what stands behind it.
+fn timed_line(alloc: Global, text: &[u8]) -> Result<Option<Line>, Memory>
+    ensures { IfOk result (λ line. line ≡ timed_line text.now) }
+{
+    let (word, rest) = split_word(text);
+    let Ok(at) = read_u64(word) else {
+        return Ok(None);
+    };
+    match rest {
+        Some(rest) => line_at(alloc, at, rest),
+        None => Ok(None),
+    }
+}
+
+// What stands behind `MS` and its space.
+fn line_at(alloc: Global, at: u64, text: &[u8]) -> Result<Option<Line>, Memory>
+    ensures { IfOk result (λ line. line ≡ at_reading at text.now) }
+{
+    let (kind, rest) = split_word(text);
+    match rest {
+        Some(rest) if kind == b"EVENT".as_slice() => event_line(alloc, at, rest),
+        _ => Ok(None),
+    }
+}
+
+// `NAME ID`.
+fn event_line(alloc: Global, at: u64, text: &[u8]) -> Result<Option<Line>, Memory>
+    ensures { IfOk result (λ line. line ≡ option_map (λ event. TakesInput (Events at (event ∷ []))) (event_of text.now)) }
+{
+    let (name, rest) = split_word(text);
+    match rest {
+        Some(id) if is_name(name) && is_name(id) => {
+            let mut events = Items::new(alloc);
+            events.push(event_named(alloc, name, id)?)?;
+            Ok(Some(Line::Input(Input::Events { at, events })))
+        }
+        _ => Ok(None),
+    }
+}
+
+// An event without data; the id `-` stands for none.
+fn event_named(alloc: Global, name: &[u8], id: &[u8]) -> Result<EventIn, Memory>
+    ensures { IfOk result (λ event. event ≡ event_named name.now (id_of id.now)) }
+{
+    let id = if id == b"-".as_slice() {
+        None
+    } else {
+        Some(Bytes::from_slice(alloc, id)?)
+    };
+    Ok(EventIn {
+        name: Bytes::from_slice(alloc, name)?,
+        content: Bytes::from_slice(alloc, b"{}")?,
+        id,
+        ts: None,
+        user: None,
+        v: None,
+    })
+}
+
+// A text at its first space: the word before it, and what stands behind it, where there is one.
+fn split_word(text: &[u8]) -> (&[u8], Option<&[u8]>)
+    ensures word { result.0.now ≡ (split_word text.now).word }
+    ensures rest { option_copied result.1 ≡ (split_word text.now).rest }
+{
+    match find_byte(text, b' ') {
+        Some(place) => (&text[..place], Some(&text[place + 1..])),
+        None => (text, None),
+    }
+}
+
+fn is_name(word: &[u8]) -> bool
+    ensures { result ≡ is_name word.now }
+{
+    !word.is_empty() && are_name_bytes(word)
+}
+
+fn are_name_bytes(word: &[u8]) -> bool
+    ensures { result ≡ list_all is_name_byte word.now }
+{
+    word.iter().all(|byte| is_name_byte(*byte))
+}
+
+// Printable ASCII without space, `"` and `\`.
+fn is_name_byte(byte: u8) -> bool
+    ensures { result ≡ is_name_byte byte }
+{
+    (33..=126).contains(&byte) && byte != b'"' && byte != b'\\'
+}

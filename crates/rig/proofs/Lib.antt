@@ -1,0 +1,9 @@
+mod FailedWrites
+pub mod Histories
+pub mod Images
+mod MemoryFiles
+mod MemoryRigSteps
+mod Overwritten
+mod Pieces
+mod Undo
+pub mod WrittenLemmas

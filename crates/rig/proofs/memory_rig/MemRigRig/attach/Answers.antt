@@ -1,0 +1,8 @@
+use Rattle.rig.proofs.MemoryRigSteps.{does_told, does_tells}
+use Rattle.rig.proofs.memory_rig.MemRigRig.attach.Goals as goal
+
+pub returns-clause-told : goal.returns-clause-told
+returns-clause-told c = does_told c.args.self.now c.do_attach.new.self _ c.do_attach.ensures.does
+
+pub returns-clause-tells : goal.returns-clause-tells
+returns-clause-tells c = does_tells c.args.self.now c.do_attach.new.self _ c.do_attach.ensures.does

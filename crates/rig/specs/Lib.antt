@@ -1,0 +1,11 @@
+pub mod Disk
+pub mod Faults
+pub mod Flow
+pub mod MemoryFile
+pub mod MemoryRig
+pub mod MemoryRigLaws
+pub mod MemorySink
+pub mod MemorySource
+pub mod SilentRig
+pub mod Told
+pub mod Written

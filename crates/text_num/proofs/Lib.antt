@@ -1,0 +1,11 @@
+pub mod DigitLemmas
+pub mod DurationLemmas
+pub mod FractionLemmas
+pub mod MantissaLemmas
+pub mod MultipleLemmas
+pub mod NumberLemmas
+pub mod PartLemmas
+pub mod SameDigits
+pub mod ShortestText
+pub mod UnitsLemmas
+pub mod WritingLemmas
