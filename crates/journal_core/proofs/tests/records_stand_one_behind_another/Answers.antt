@@ -4,4 +4,4 @@ use Rattle.journal_core.proofs.tests.records_stand_one_behind_another.Goals as g
 use Rattle.journal_core.proofs.Blank.{blank_file}
 
 pub open-requires : goal.open-requires
-open-requires g c = blank_file c.in_ok-rig.rig (ap (λ (r : MemoryRig). r.a.bytes) c.in_ok-rig.ensures)
+open-requires g c = blank_file c.in_ok-rig.rig (ap (λ (r : MemoryRig). r.a.bytes) c.in_ok-rig.ensures.value)
