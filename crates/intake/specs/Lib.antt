@@ -1,3 +1,4 @@
 pub mod Number
 pub mod Order
 pub mod Places
+pub mod Events

@@ -1,11 +1,16 @@
-//! What comes in: the event ids of the last day, by which a repeated event is told. Stands on
-//! `kinds`, and promises that a value is its list of entries, whatever it keeps to find them.
+//! What comes in: the events that a request's body gives, and the event ids of the last day, by which a
+//! repeated event is told. Stands on `kinds` and `json_text`, and promises the events of a body or its
+//! first fault, and that a window of ids is its list of entries, whatever it keeps to find them.
 #![tactic(auto)]
 
+mod events;
+mod fault;
 mod seen;
 mod timeline;
 mod window;
 
+pub use events::{event_text, read_events};
+pub use fault::IntakeFault;
 pub use seen::Seen;
 pub use timeline::Entries;
 

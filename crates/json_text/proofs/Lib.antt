@@ -17,3 +17,4 @@ pub mod Pieces
 pub mod Writing
 pub mod Members
 pub mod ReadBack
+pub mod Deciding

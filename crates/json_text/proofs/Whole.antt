@@ -52,10 +52,10 @@ reads-on w r s at byte u h l e a = record {
   shows = a.3;
 }
 
-split-at : (w : List ℕ) (at byte : ℕ) → at < length w → byte ≡ slice_index w at → take at w ++ byte ∷ drop (at + 1) w ≡ w
+pub split-at : (w : List ℕ) (at byte : ℕ) → at < length w → byte ≡ slice_index w at → take at w ++ byte ∷ drop (at + 1) w ≡ w
 split-at w at byte l e = ap (λ (x : ℕ). take at w ++ x ∷ drop (at + 1) w) e ∙ ap (λ (x : List ℕ). take at w ++ x) (sym (drop_more w at 0 l)) ∙ take-append-drop at w
 
-taken : (w : List ℕ) (at : ℕ) → at < length w → length (take at w) ≡ at
+pub taken : (w : List ℕ) (at : ℕ) → at < length w → length (take at w) ≡ at
 taken w at l = omega (arith, length-take at w)
 
 pub faults : (w : List ℕ) (r s : Reader) (at byte : ℕ) (e : JsonFault) (h : ReadsTo w r at) → at < length w → byte ≡ slice_index w at → Answers w at (step h.here byte) (Err e) s → IsFaultOf e w

@@ -10,4 +10,5 @@ pub mod Building
 pub mod Reading
 pub mod Trees
 pub mod Text
+pub mod Texts
 pub mod Splitting

@@ -45,9 +45,10 @@ impl Model for Node {
 }
 
 impl<'a> Tree<'a> {
-    ghost use Rattle.std.specs.Prelude.{◌≡◌, ◌+◌, IfOk, IfErr, MatchOption, MatchResult, Some, None, length, slice_get};
+    ghost use Rattle.std.specs.Prelude.{◌≡◌, ◌+◌, ◌⊎◌, IfOk, IfErr, MatchOption, MatchResult, Ok, Err, Some, None, length, slice_get};
     ghost use Rattle.json_text.specs.Grammar.{IsJson, spelling};
     ghost use Rattle.json_text.specs.Text.{last_named, member_of, text_of};
+    ghost use Rattle.json_text.specs.Texts.{read_text};
     ghost use Rattle.json_text.specs.declared.fault.JsonFault.TheVariants as fault;
     ghost use Rattle.json_text.specs.declared.kind.Kind.TheVariants as kind;
     ghost use Rattle.json_text.specs.Places.{IsFaultOf};
@@ -56,7 +57,8 @@ impl<'a> Tree<'a> {
     /// Reads a JSON text (RFC 8259) in UTF-8, without lone surrogates and with at most 64 open brackets.
     /// A fault has the first place where no text goes on so. The time is linear in the bytes.
     pub fn read(alloc: Global, bytes: &'a [u8]) -> Result<Self, JsonFault>
-        ensures { MatchResult result (λ tree. IsJson bytes.now tree) (λ fault. IsFaultOf fault bytes.now) }
+        ensures grammar { MatchResult result (λ tree. IsJson bytes.now tree) (λ fault. IsFaultOf fault bytes.now) }
+        ensures decided { MatchResult result (λ tree. read_text bytes.now ≡ Ok tree) (λ e. (e ≡ fault.Memory) ⊎ (read_text bytes.now ≡ Err e)) }
     {
         let mut reader = Reader::new(alloc, bytes);
         for (at, byte) in bytes.iter().enumerate() {
