@@ -1,13 +1,11 @@
 -- What is printed and run, part after part.
-use Rattle.std.proofs.Common.{◌≡◌, ℕ, ◌+◌, List, [], ◌∷◌, ◌++◌, length, take, Option, Some, None, refl, ap, ◌∙◌, sym, subst, append_assoc, arith, append-nil}
-use Rattle.std.proofs.Common.{◌<◌, drop, get_or, flat_map, add-one, drop-cons, inl, inr, Ok}
-use Rattle.std.proofs.lemmas.List.{take-append-le, take_all, take-append-drop}
+use Rattle.std.proofs.Common.{◌≡◌, ℕ, ◌+◌, List, [], ◌∷◌, ◌++◌, length, take, Option, refl, ap, ◌∙◌, sym, subst, append_assoc, append-nil}
+use Rattle.std.proofs.Common.{◌<◌, drop, get_or, flat_map, add-one, drop-cons, Ok}
+use Rattle.std.proofs.lemmas.List.{take-append-drop}
 use Rattle.std.proofs.lemmas.Grind.{flat_map-append}
-use Rattle.std.proofs.lemmas.Bool.{cases_lt}
 use Rattle.replay_core.specs.declared.end.ReplayEnd.{ReplayEnd}
 use Rattle.replay_core.specs.declared.end.ReplayEnd.TheVariants.{Done, Script, ReadFault, WriteFault, NumbersSpent, Memory}
 use mathlib.Core.Path.{fun_ext}
-use Rattle.std.proofs.Math.Seq.{take-append-add, take-append_seam}
 use Rattle.rig.specs.Written.{Adds, AddsPrefix}
 use Rattle.rig.proofs.WrittenLemmas.{adds-adds, adds-adds-prefix, adds-nothing, adds-prefix-more, adds-prefix-nothing}
 use Rattle.replay_core.specs.Pieces.{Lines, all_lines, last_line, lines_of}

@@ -9,7 +9,7 @@ use Rattle.replay_core.specs.Run.{Breaks, CountsReadFault, Feeds, Finishes, IsRe
 use Rattle.replay_core.specs.declared.end.ReplayEnd.{ReplayEnd}
 use Rattle.replay_core.specs.declared.end.ReplayEnd.TheVariants.{Done, Script, ReadFault, WriteFault, NumbersSpent, Memory}
 use Rattle.replay_core.proofs.PiecesLemmas.{IsOpen, first-line, lines-open}
-use Rattle.rig.proofs.WrittenLemmas.{adds-adds, adds-adds-prefix, adds-nothing, adds-prefix-more, adds-prefix-nothing}
+use Rattle.rig.proofs.WrittenLemmas.{adds-adds, adds-adds-prefix, adds-nothing, adds-prefix-more}
 use Rattle.replay_core.proofs.ReplayLemmas.{feeds-feeds, feeds-goes, feeds-open, feeds-start, feeds-stops, on_lines-one}
 
 -- ## The last line

@@ -1,14 +1,17 @@
 -- The grammar of a script's lines.
-use Rattle.std.specs.Prelude.{ℕ, Bool, true, false, not, ◌&&◌, List, [], ◌∷◌, Option, Some, None, ◌==◌, nat_le, if◌then◌else◌, codes, ◌+◌, position, take, drop}
+use Rattle.std.specs.Prelude.{ℕ, Bool, true, false, not, ◌&&◌, List, [], ◌∷◌, Option, Some, None, Result, Ok, Err, ◌==◌, nat_le, if◌then◌else◌, codes, ◌+◌, position, take, drop}
 use Rattle.std.specs.List.{list_all}
 use Rattle.std.specs.Option.{option_and_then, option_map}
 use Rattle.std.specs.Result.{result_ok}
 use Rattle.std.specs.Str.{bytes_eq}
+use Rattle.intake.specs.Events.{events_in_body, fault_answer}
+use Rattle.intake.specs.declared.fault.IntakeFault.{IntakeFault}
+use Rattle.kinds.specs.Answer.{ids_answer}
 use Rattle.kinds.specs.declared.event.EventIn.{EventIn}
 use Rattle.kinds.specs.declared.input.Input.TheVariants.{Events}
 use Rattle.text_num.specs.Digits.{u64_of}
 use Rattle.replay_core.specs.declared.line.Line.{Line}
-use Rattle.replay_core.specs.declared.line.Line.TheVariants.{Passed, Input}
+use Rattle.replay_core.specs.declared.line.Line.TheVariants.{Passed, Input, Answered}
 
 -- a word up to the first space, and what stands behind that space, where there is one
 pub record Split : Type 0 where
@@ -43,11 +46,23 @@ event_named name id = record { name = name; content = codes "{}"; id = id; ts = 
 abbrev pub event_of : List ℕ → Option EventIn
 event_of text = let name = (split_word text).word in option_and_then (λ id. if is_name name && is_name id then Some (event_named name (id_of id)) else None) (split_word text).rest
 
+-- a request without events is answered at once
+abbrev pub request_line : ℕ → List EventIn → Line
+request_line at [] = Answered (ids_answer [])
+request_line at (event ∷ events) = Input (Events at (event ∷ events))
+
+-- a request whose body gives these events or is refused
+abbrev pub read_request : ℕ → Result (List EventIn) IntakeFault → Option Line
+read_request at (Ok events) = Some (request_line at events)
+read_request at (Err fault) = option_map Answered (fault_answer fault)
+
 -- what stands behind `MS` and its space
 abbrev pub at_reading : ℕ → List ℕ → Option Line
 at_reading at text =
     if bytes_eq (split_word text).word (codes "EVENT")
     then option_map (λ event. Input (Events at (event ∷ []))) (option_and_then event_of (split_word text).rest)
+    else if bytes_eq (split_word text).word (codes "EVENTS")
+    then option_and_then (λ body. read_request at (events_in_body body)) (split_word text).rest
     else None
 
 -- `MS` and what stands behind it

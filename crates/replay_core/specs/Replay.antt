@@ -81,6 +81,7 @@ abbrev pub says : Session → ℕ → Option Line → Outcome
 says session size None = Stops (Outside (session.lines + 1)) []
 says session size (Some line.Passed) = Goes (next_line session session.state size) []
 says session size (Some (line.Input input)) = on_input session size input
+says session size (Some (line.Answered out)) = Goes (next_line session session.state size) (printed out)
 
 -- a line with the byte that ends it; where it passes the limit of a whole script, it is outside the grammar
 unfoldable pub on_line : Session → List ℕ → Outcome

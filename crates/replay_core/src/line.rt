@@ -1,13 +1,15 @@
 ghost use Rattle.std.specs.Prelude.{◌≡◌, ◌∷◌, [], IfOk};
 ghost use Rattle.std.specs.List.{list_all};
 ghost use Rattle.std.specs.Option.{option_copied, option_map};
-ghost use Rattle.replay_core.specs.Line.{Split, at_reading, event_named, event_of, id_of, is_name, is_name_byte, is_passed, read_line, split_word, timed_line};
+ghost use Rattle.replay_core.specs.Line.{Split, at_reading, event_named, event_of, id_of, is_name, is_name_byte, is_passed, read_line, read_request, request_line, split_word, timed_line};
+ghost use Rattle.intake.specs.Events.{events_in_body};
 ghost use Rattle.replay_core.specs.Pieces.{text_of_line};
 ghost use Rattle.kinds.specs.declared.input.Input.TheVariants.{Events};
 ghost use Rattle.replay_core.specs.declared.line.Line.TheVariants.{Input as TakesInput};
 
 use crate::bytes::find_byte;
-use kinds::{Bytes, EventIn, Input, Items, Memory};
+use intake::read_events;
+use kinds::{Bytes, EventIn, Input, Items, Memory, Out, ids_answer};
 use std::alloc::Global;
 use text_num::read_u64;
 
@@ -18,6 +20,8 @@ pub enum Line {
     Passed,
     /// An input of the machine.
     Input(Input),
+    /// A request that is answered at once: it is refused, or has no events.
+    Answered(Out),
 }
 
 /// What stands in a line before the byte that ends it.
@@ -62,8 +66,29 @@ fn line_at(alloc: Global, at: u64, text: &[u8]) -> Result<Option<Line>, Memory>
     let (kind, rest) = split_word(text);
     match rest {
         Some(rest) if kind == b"EVENT".as_slice() => event_line(alloc, at, rest),
+        Some(body) if kind == b"EVENTS".as_slice() => events_line(alloc, at, body),
         _ => Ok(None),
     }
+}
+
+// The body of a request of events.
+fn events_line(alloc: Global, at: u64, body: &[u8]) -> Result<Option<Line>, Memory>
+    ensures { IfOk result (λ line. line ≡ read_request at (events_in_body body.now)) }
+{
+    match read_events(alloc, body) {
+        Ok(events) => Ok(Some(request_line(alloc, at, events)?)),
+        Err(fault) => Ok(Some(Line::Answered(fault.answer(alloc)?))),
+    }
+}
+
+// A request without events is no input.
+fn request_line(alloc: Global, at: u64, events: Items<EventIn>) -> Result<Line, Memory>
+    ensures { IfOk result (λ line. line ≡ request_line at events) }
+{
+    if events.is_empty() {
+        return Ok(Line::Answered(ids_answer(alloc, &[])?));
+    }
+    Ok(Line::Input(Input::Events { at, events }))
 }
 
 // `NAME ID`.

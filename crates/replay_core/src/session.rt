@@ -82,6 +82,7 @@ impl Session {
             }),
             Some(Line::Passed) => Ok(self.pass_line(line.len())),
             Some(Line::Input(input)) => self.take_input(input, line.len(), sink),
+            Some(Line::Answered(answer)) => self.say_and_pass(&answer, line.len(), sink),
         }
     }
 
