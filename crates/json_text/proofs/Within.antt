@@ -1,11 +1,11 @@
 -- The named states inside a string are what the patterns leave open.
 use Rattle.std.proofs.Common.{◌≡◌, ℕ, zero, suc, ◌<◌, Bool, true, false, ◌&&◌, List, [], ◌∷◌, refl, sym, ◌∙◌, ap, subst, arith, Option, Some, None}
 use Rattle.std.proofs.lemmas.Bool.{eqb-true, eqb-false}
-use Rattle.std.specs.Prelude.{not, ◌==◌}
+use Rattle.std.specs.Prelude.{cond, not, ◌==◌}
 use Rattle.json_text.proofs.Booleans.{and_left, and_right}
 use Rattle.json_text.specs.Lexical.{Class, Pattern}
 use Rattle.json_text.specs.Machine.{left_after, has_ended}
-use Rattle.json_text.specs.Steps.{alternatives, next_within}
+use Rattle.json_text.specs.Steps.{after_lead, alternatives, is_unescaped, next_within}
 use Rattle.json_text.specs.declared.character.Within.{Within}
 use Rattle.json_text.specs.declared.character.Within.TheVariants as at
 
@@ -126,3 +126,11 @@ leads-as (Some at.LowAfterD) ps h = let e = same-patterns ps (alternatives at.Lo
 
 pub within-leads : (x : Within) (b : ℕ) → b < 256 → Leads (next_within x b) (left_after b (alternatives x))
 within-leads x b h = leads-as (next_within x b) (left_after b (alternatives x)) (below 256 (agrees x) (agrees-all x) b h)
+
+-- ---- bytes that stand for themselves
+
+pub unescaped-goes : (byte : ℕ) → is_unescaped byte ≡ true → next_within at.Between byte ≡ Some at.Between
+unescaped-goes byte h = ap (λ (t : Bool). cond t (Some at.Between) (cond (byte == 0x5c) (Some at.Escape) (after_lead byte))) h
+
+pub unescaped-is-no-mark : (byte : ℕ) → is_unescaped byte ≡ true → byte ≡ 0x22 → ⊥
+unescaped-is-no-mark byte h e = let no : is_unescaped 0x22 ≡ true = subst (λ (b : ℕ). is_unescaped b ≡ true) e h in absurd (let same : false ≡ true = no in cc)

@@ -4,7 +4,7 @@ ghost use Rattle.json_text.specs.declared.fault.JsonFault.TheVariants as fault;
 
 use crate::bracket::Turn;
 use crate::builder::Builder;
-use crate::character::Within;
+use crate::character::{Within, is_unescaped};
 use crate::number::Stage;
 use crate::turn::is_space;
 use crate::word::Word;
@@ -188,11 +188,14 @@ impl<'a> Reader<'a> {
         Ok(())
     }
 
+    /// Most bytes of a text leave the reader as it is.
     fn text(&mut self, within: Within, at: usize, byte: u8) -> Result<(), JsonFault>
-        requires { at < length self.old.bytes.now }
+        requires inside { at < length self.old.bytes.now }
+        requires mode { self.old.mode ≡ mode.Text within }
         ensures { (w : List ℕ) (m : State_mode) (f : Frame) (fs : List Frame) → IsMode (mode.Text within) m → Holds w self.old at byte m f fs → Answers w at (step_in m byte f fs) result self.new }
     {
         match within {
+            Within::Between if is_unescaped(byte) => Ok(()),
             Within::Between if byte == b'"' => self.put(Kind::Text, at + 1),
             _ => self.character(within, at, byte),
         }

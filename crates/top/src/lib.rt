@@ -11,4 +11,6 @@ pub use program::Program;
 pub use status::Status;
 
 #[cfg(test)]
+mod events_tests;
+#[cfg(test)]
 mod tests;

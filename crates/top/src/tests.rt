@@ -13,7 +13,7 @@ fn replay(alloc: Global, input: &mut MemSource, out: &mut MemSink) -> Result<Sta
 }
 
 // Runs a script that comes in pieces of so many bytes at the most.
-fn check(
+pub(crate) fn check(
     rt: &(impl Abort + AllocGlobal),
     script: &[u8],
     piece: usize,
