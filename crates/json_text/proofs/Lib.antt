@@ -18,3 +18,4 @@ pub mod Writing
 pub mod Members
 pub mod ReadBack
 pub mod Deciding
+pub mod Siblings

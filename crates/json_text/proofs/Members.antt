@@ -31,7 +31,7 @@ pub record IsMember (root : Json) (ps : List Json) (index i : ℕ) : Type 0 wher
   pub both : drop i ps ≡ value_at root index ∷ value_at root (index + length (nodes (value_at root index))) ∷ drop (i + 2) ps
   pub on : IsPartAt root ps (index + length (nodes (value_at root index)) + length (nodes (value_at root (index + length (nodes (value_at root index)))))) (i + 2)
 
-at-head : (ps : List Json) (i : ℕ) (v : Json) → i < length ps → slice_get ps i ≡ Some v → drop i ps ≡ v ∷ drop (i + 1) ps
+pub at-head : (ps : List Json) (i : ℕ) (v : Json) → i < length ps → slice_get ps i ≡ Some v → drop i ps ≡ v ∷ drop (i + 1) ps
 at-head ps i v l e = drop_more ps i null l ∙ ap (λ (x : Json). x ∷ drop (i + 1) ps) (get_or_from_slice_get ps i v null e)
 
 pub member-here : (root : Json) (ps : List Json) (index i : ℕ) → IsPartAt root ps index i → i + 1 < length ps → IsMember root ps index i

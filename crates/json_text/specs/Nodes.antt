@@ -1,5 +1,5 @@
 -- The nodes of a value: the value itself, and then those of its parts, in the order of the source.
-use Rattle.std.specs.Prelude.{ℕ, ◌+◌, ◌*◌, ◌/◌, ◌<◌, List, [], ◌∷◌, ◌++◌, length, get_or, Option, None, slice_get}
+use Rattle.std.specs.Prelude.{ℕ, zero, suc, ◌+◌, ◌*◌, ◌/◌, ◌<◌, List, [], ◌∷◌, ◌++◌, length, get_or, Option, None, slice_get}
 use Rattle.json_text.specs.Grammar.{Json, null, boolean, number, text, array, object, Parts, no_parts, part}
 use Rattle.json_text.specs.declared.kind.Kind.{Kind}
 use Rattle.json_text.specs.declared.kind.Kind.TheVariants as kind
@@ -72,3 +72,17 @@ key_of (number w) k = None
 key_of (text w) k = None
 key_of (array w js) k = None
 key_of (object w js) k = slice_get (list_of js) (2 * k)
+
+-- the items of a list
+abbrev pub items_of : Json → List Json
+items_of null = []
+items_of (boolean b) = []
+items_of (number w) = []
+items_of (text w) = []
+items_of (array w js) = list_of js
+items_of (object w js) = []
+
+-- the numbers of so many nodes from this one on, each behind all the nodes of the one before
+abbrev pub siblings : Json → ℕ → ℕ → List ℕ
+siblings root n zero = []
+siblings root n (suc count) = n ∷ siblings root (n + length (nodes (value_at root n))) count

@@ -7,6 +7,7 @@ mod builder;
 mod character;
 mod entry;
 mod fault;
+mod items;
 mod kind;
 mod laws;
 mod number;
@@ -17,6 +18,7 @@ mod turn;
 mod word;
 
 pub use fault::JsonFault;
+pub use items::ItemNodes;
 pub use kind::Kind;
 pub use laws::one_value;
 pub use text::put_text;

@@ -1,6 +1,7 @@
 use crate::{JsonFault, Kind, Tree, put_text};
 use kinds::Bytes;
 use std::alloc::Global;
+use std::process::Abort;
 use std::test::Fail;
 
 /// Whether the bytes end as told: read, not JSON at a place, or too deep at a place.
@@ -23,7 +24,7 @@ fn answer_to(alloc: Global, bytes: &[u8]) -> Answer {
 
 #[test]
 fn places(rt: HostRuntime) -> Result<(), Fail> {
-    let rows: [(&[u8], Answer); 44] = [
+    let rows: [(&[u8], Answer); 46] = [
         (b"nul", Answer::NotJson(3)),
         (b"01", Answer::NotJson(1)),
         (b"{\"a\":1,}", Answer::NotJson(7)),
@@ -65,6 +66,8 @@ fn places(rt: HostRuntime) -> Result<(), Fail> {
         (b"\"\xed\xa0\x80\"", Answer::NotJson(2)),
         (b"\"\xf0\x90\x80\x80\"", Answer::Reads),
         (b"\"\xf4\x90\x80\x80\"", Answer::NotJson(2)),
+        (b"\"\xef\xbf\xbf\"", Answer::Reads),
+        (b"\"\xf5\x80\x80\x80\"", Answer::NotJson(1)),
         (b"\"\x80\"", Answer::NotJson(1)),
         (b"\xef\xbb\xbf1", Answer::NotJson(0)),
         (b"\"abc", Answer::NotJson(4)),
@@ -72,6 +75,62 @@ fn places(rt: HostRuntime) -> Result<(), Fail> {
     for (bytes, expected) in rows {
         assert_eq!(&rt; answer_to(rt.alloc(), bytes), expected);
     }
+    Ok(())
+}
+
+/// A text with each kind of value, escape and space, which ends in its last byte.
+const RICH: &[u8] =
+    b" {\t\"p\" :\n[1.50, -0,1e+2,0.1E-3,true , false,null,[ ],{ }],\r\"q\\u0041\\\"\":\"\\n\\ud83d\\ude00 \xc3\xa9\xe2\x82\xac\xf0\x9f\x98\x80/\",\"\":{\"p\":\"\"}}";
+
+#[test]
+fn prefixes(rt: HostRuntime) -> Result<(), Fail> {
+    assert_eq!(&rt; answer_to(rt.alloc(), RICH), Answer::Reads);
+    for size in 0..RICH.len() {
+        assert_eq!(&rt;
+            answer_to(rt.alloc(), &RICH[..size]),
+            Answer::NotJson(size as u64)
+        );
+    }
+    Ok(())
+}
+
+// Neither byte comes in a JSON text.
+#[test]
+fn corruptions(rt: HostRuntime) -> Result<(), Fail> {
+    for wrong in [0x01u8, 0xff] {
+        for place in 0..RICH.len() {
+            let mut text = Vec::from_slice(rt.alloc(), RICH)?;
+            text[place] = wrong;
+            assert_eq!(&rt;
+                answer_to(rt.alloc(), text.as_slice()),
+                Answer::NotJson(place as u64)
+            );
+        }
+    }
+    Ok(())
+}
+
+// So many bytes of one kind.
+fn filled(alloc: Global, byte: u8, size: usize) -> Result<Vec<u8>, Fail> {
+    Ok(vec![in alloc; byte; size]?)
+}
+
+#[test]
+fn large_texts(rt: HostRuntime) -> Result<(), Fail> {
+    let size = 4 * 1024 * 1024;
+    let brackets = filled(rt.alloc(), b'[', size)?;
+    assert_eq!(&rt;
+        answer_to(rt.alloc(), brackets.as_slice()),
+        Answer::TooDeep(64)
+    );
+    let mut text = Vec::from_slice(rt.alloc(), b"\"")?;
+    text.resize(size, b'a')?;
+    assert_eq!(&rt;
+        answer_to(rt.alloc(), text.as_slice()),
+        Answer::NotJson(size as u64)
+    );
+    text.push(b'"')?;
+    assert_eq!(&rt; answer_to(rt.alloc(), text.as_slice()), Answer::Reads);
     Ok(())
 }
 
@@ -100,6 +159,11 @@ fn nodes(rt: HostRuntime) -> Result<(), Fail> {
     };
     assert!(&rt; tree.kind(key) == Kind::Text);
     assert!(&rt; tree.key(root, 2).is_none());
+    let mut items = tree.items(list);
+    for k in 0..4 {
+        assert_eq!(&rt; items.next(), tree.item(list, k));
+    }
+    assert_eq!(&rt; tree.items(root).count(), 0);
     Ok(())
 }
 
@@ -165,5 +229,38 @@ fn written(rt: HostRuntime) -> Result<(), Fail> {
         out.as_slice(),
         "\"a\\\"\\\\\\u000a\\u001f\u{7f}\u{e9}\u{1f600}\"".as_bytes()
     );
+    Ok(())
+}
+
+// What is written of a text is read as it.
+fn check_round_trip(rt: &(impl Abort + AllocGlobal), text: &[u8]) -> Result<(), Fail> {
+    let mut out = Bytes::new(rt.alloc());
+    put_text(&mut out, text)?;
+    let tree = Tree::read(rt.alloc(), out.as_slice())?;
+    if tree.kind(tree.root()) != Kind::Text {
+        return Err(Fail::new("no text"));
+    }
+    let read = tree.text_of(tree.root())?;
+    assert_eq!(rt; read.as_slice(), text);
+    Ok(())
+}
+
+#[test]
+fn round_trips(rt: HostRuntime) -> Result<(), Fail> {
+    for byte in 0u8..0x80 {
+        check_round_trip(&rt, &[byte])?;
+    }
+    for text in [
+        "",
+        "\u{80}",
+        "\u{7ff}",
+        "\u{800}",
+        "\u{ffff}",
+        "\u{10000}",
+        "\u{10ffff}",
+        "a\\\"b\u{0}",
+    ] {
+        check_round_trip(&rt, text.as_bytes())?;
+    }
     Ok(())
 }

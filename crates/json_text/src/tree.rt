@@ -3,7 +3,7 @@ ghost use Rattle.std.specs.Prelude.{◌≡◌, ◌≤◌, Some, if◌then◌else
 use crate::entry::Entry;
 use crate::reader::Reader;
 use crate::text::{stands_for, unescaped};
-use crate::{JsonFault, Kind};
+use crate::{ItemNodes, JsonFault, Kind};
 use kinds::Bytes;
 use std::alloc::Global;
 use std::marker::Model;
@@ -44,15 +44,26 @@ impl Model for Node {
     ghost inverse = { λ n. record { index = n } };
 }
 
+impl Node {
+    ghost use Rattle.std.specs.Prelude.{◌≡◌};
+
+    pub(crate) fn at(index: usize) -> Self
+        ensures { result ≡ index }
+    {
+        Node { index }
+    }
+}
+
 impl<'a> Tree<'a> {
-    ghost use Rattle.std.specs.Prelude.{◌≡◌, ◌+◌, ◌⊎◌, IfOk, IfErr, MatchOption, MatchResult, Ok, Err, Some, None, length, slice_get};
+    ghost use Rattle.std.specs.Prelude.{◌≡◌, ◌+◌, ◌⊎◌, ◌<◌, IfOk, IfErr, MatchOption, MatchResult, Ok, Err, Some, None, length, map, slice_get};
     ghost use Rattle.json_text.specs.Grammar.{IsJson, spelling};
     ghost use Rattle.json_text.specs.Text.{last_named, member_of, text_of};
     ghost use Rattle.json_text.specs.Texts.{read_text};
     ghost use Rattle.json_text.specs.declared.fault.JsonFault.TheVariants as fault;
     ghost use Rattle.json_text.specs.declared.kind.Kind.TheVariants as kind;
     ghost use Rattle.json_text.specs.Places.{IsFaultOf};
-    ghost use Rattle.json_text.specs.Nodes.{IsNodeOf, nodes, value_at, kind_of, len_of, item_of, key_of, parts_of};
+    ghost use Rattle.json_text.specs.Nodes.{IsNodeOf, nodes, value_at, kind_of, len_of, item_of, items_of, key_of, parts_of};
+    ghost use Rattle.std.specs.List.{AllByRecursion};
 
     /// Reads a JSON text (RFC 8259) in UTF-8, without lone surrogates and with at most 64 open brackets.
     /// A fault has the first place where no text goes on so. The time is linear in the bytes.
@@ -105,6 +116,29 @@ impl<'a> Tree<'a> {
             Kind::List => self.part(node, k),
             Kind::Object if k < entry.count / 2 => self.part(node, 2 * k + 1),
             _ => None,
+        }
+    }
+
+    /// The items of a list in order, and none of the other kinds. To go on to the next takes constant
+    /// time, where `item` takes as many steps as there are items before.
+    pub fn items(&self, node: Node) -> ItemNodes<'_, 'a>
+        requires { IsNodeOf self.now node }
+        ensures nodes { AllByRecursion (IsNodeOf self.now) result }
+        ensures values { map (value_at self.now) result ≡ items_of (value_at self.now node) }
+    {
+        let count = self.item_count(node);
+        ItemNodes::new(self, node.index + 1, count)
+    }
+
+    fn item_count(&self, node: Node) -> usize
+        requires { IsNodeOf self.now node }
+        ensures count { result ≡ length (items_of (value_at self.now node)) }
+        ensures fits { node + 1 < 18446744073709551616 }
+    {
+        let entry = self.entry(node.index);
+        match entry.kind {
+            Kind::List => entry.count,
+            _ => 0,
         }
     }
 
@@ -173,6 +207,14 @@ impl<'a> Tree<'a> {
     {
         let entry = self.nodes.as_slice()[index];
         part_of(self.bytes, entry.start, entry.stop)
+    }
+
+    // The number behind all the nodes of this one.
+    pub(crate) fn after(&self, node: Node) -> usize
+        requires { IsNodeOf self.now node }
+        ensures { result ≡ node + length (nodes (value_at self.now node)) }
+    {
+        self.entry(node.index).next
     }
 
     fn entry(&self, index: usize) -> Entry
