@@ -1,24 +1,104 @@
-ghost use Rattle.std.specs.Prelude.{◌≡◌, ◌⊎◌, Ok, Err, MatchResult, IfOk};
-ghost use Rattle.intake.specs.Events.{event_text, events_in_body};
+ghost use Rattle.std.specs.Prelude.{◌≡◌, ◌⊎◌, [], ◌∷◌, length, Ok, Err, MatchResult};
+ghost use Rattle.json_text.specs.Nodes.{IsNodeOf, value_at, kind_of, parts_of};
+ghost use Rattle.json_text.specs.declared.kind.Kind.TheVariants as kind;
+ghost use Rattle.intake.specs.Events.{event_of, events_from, events_in, events_in_body, events_of};
+ghost use Rattle.intake.specs.Reading.{Gives};
 ghost use Rattle.intake.specs.declared.fault.IntakeFault.TheVariants as fault;
 
 use crate::IntakeFault;
-use kinds::{Bytes, EventIn, Items, Memory};
+use crate::members::{content_in, event_with, text_in};
+use json_text::{Kind, Node, Tree};
+use kinds::{EventIn, Items};
 use std::alloc::Global;
+
+/// The greatest number of events in a request.
+const MOST_EVENTS: usize = 1_000;
+
+/// The greatest length of an event's own text in the request, in bytes.
+const MOST_BYTES: usize = 262_144;
 
 /// Reads the body of a request of events: one event, or an array of at most 1,000. A body is refused
 /// whole, for the first of its faults in the order of the variants of `IntakeFault`; the faults of events
 /// are found event by event.
+#[tactic(auto, unfolding(crate::specs::Events::events_in_body))]
 pub fn read_events(alloc: Global, body: &[u8]) -> Result<Items<EventIn>, IntakeFault>
     ensures { MatchResult result (λ events. events_in_body body.now ≡ Ok events) (λ e. (e ≡ fault.Memory) ⊎ (events_in_body body.now ≡ Err e)) }
 {
-    Err(IntakeFault::Memory)
+    let tree = Tree::read(alloc, body)?;
+    events_of(alloc, &tree)
 }
 
-/// The text that an accepted event goes on as, with its number and its moment in milliseconds since 1970:
-/// `{"name":N,"data":D,"id":I,"ts":T,"user":U,"v":V}`, the last two only where the source has them.
-pub fn event_text(alloc: Global, event: &EventIn, number: u64, moment: u64) -> Result<Bytes, Memory>
-    ensures { IfOk result (λ text. text ≡ event_text number moment event.now) }
+fn events_of(alloc: Global, tree: &Tree<'_>) -> Result<Items<EventIn>, IntakeFault>
+    ensures { Gives (events_of tree.now) result }
 {
-    Err(Memory)
+    let root = tree.root();
+    if tree.kind(root) == Kind::List {
+        events_in(alloc, tree, root)
+    } else {
+        one_event(alloc, tree, root)
+    }
+}
+
+#[tactic(auto, unfolding(crate::specs::Events::events_from))]
+fn one_event(alloc: Global, tree: &Tree<'_>, node: Node) -> Result<Items<EventIn>, IntakeFault>
+    requires { IsNodeOf tree.now node }
+    ensures { Gives (events_in (value_at tree.now node ∷ [])) result }
+{
+    let mut events = Items::new(alloc);
+    events.push(event_of(alloc, tree, node, 0)?)?;
+    Ok(events)
+}
+
+fn events_in(alloc: Global, tree: &Tree<'_>, list: Node) -> Result<Items<EventIn>, IntakeFault>
+    requires node { IsNodeOf tree.now list }
+    requires list { kind_of (value_at tree.now list) ≡ kind.List }
+    ensures { Gives (events_in (parts_of (value_at tree.now list))) result }
+{
+    let count = tree.len(list);
+    if count > MOST_EVENTS {
+        return Err(IntakeFault::TooMany {
+            count: count as u64,
+        });
+    }
+    items_from(alloc, tree, list, count)
+}
+
+/// The events of a list that has so many items.
+fn items_from(
+    alloc: Global,
+    tree: &Tree<'_>,
+    list: Node,
+    count: usize,
+) -> Result<Items<EventIn>, IntakeFault>
+    requires node { IsNodeOf tree.now list }
+    requires list { kind_of (value_at tree.now list) ≡ kind.List }
+    requires count { count ≡ length (parts_of (value_at tree.now list)) }
+    ensures { Gives (events_from 0 (parts_of (value_at tree.now list))) result }
+{
+    let mut events = Items::new(alloc);
+    for index in 0..count {
+        let Some(node) = tree.item(list, index) else {
+            break;
+        };
+        events.push(event_of(alloc, tree, node, index as u64)?)?;
+    }
+    Ok(events)
+}
+
+/// The event at a node, which is the one of this index in the request.
+#[tactic(auto, unfolding(crate::specs::Events::event_of))]
+fn event_of(alloc: Global, tree: &Tree<'_>, node: Node, index: u64) -> Result<EventIn, IntakeFault>
+    requires { IsNodeOf tree.now node }
+    ensures { Gives (event_of index (value_at tree.now node)) result }
+{
+    let Some(name) = text_in(tree, node, b"name")? else {
+        return Err(IntakeFault::NoName { index });
+    };
+    let Some(content) = content_in(tree, node) else {
+        return Err(IntakeFault::DataNotObject { index });
+    };
+    if tree.slice(node).len() > MOST_BYTES {
+        return Err(IntakeFault::TooLarge { index });
+    }
+    Ok(event_with(alloc, tree, node, name, content)?)
 }

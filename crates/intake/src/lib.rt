@@ -5,14 +5,17 @@
 
 mod events;
 mod fault;
+mod members;
 mod seen;
 mod timeline;
 mod window;
+mod written;
 
-pub use events::{event_text, read_events};
+pub use events::read_events;
 pub use fault::IntakeFault;
 pub use seen::Seen;
 pub use timeline::Entries;
+pub use written::event_text;
 
 #[cfg(test)]
 mod tests;

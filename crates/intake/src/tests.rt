@@ -1,4 +1,6 @@
-use crate::Seen;
+use crate::{IntakeFault, Seen, event_text, read_events};
+use kinds::{Bytes, EventIn, Memory, Out};
+use std::alloc::Global;
 use std::test::Fail;
 
 const DAY: u64 = 86_400_000;
@@ -33,5 +35,435 @@ fn a_new_entry_takes_the_place_of_an_old_one(rt: HostRuntime) -> Result<(), Fail
     assert_eq!(rt; seen.weight(), 65);
     assert_eq!(rt; seen.find(b"bc", 5), None);
     assert_eq!(rt; seen.entries().count(), 1);
+    Ok(())
+}
+
+const MOMENT: u64 = 1000;
+
+/// What a body comes to: the texts of its events, numbered from 1, one behind the other, or the answer
+/// that refuses it.
+fn told(alloc: Global, body: &[u8]) -> Result<Bytes, Memory> {
+    match read_events(alloc, body) {
+        Ok(events) => texts(alloc, events.as_slice()),
+        Err(fault) => {
+            let Out::Answer { body, .. } = fault.answer(alloc)?;
+            Ok(body)
+        }
+    }
+}
+
+fn texts(alloc: Global, events: &[EventIn]) -> Result<Bytes, Memory> {
+    let mut all = Bytes::new(alloc);
+    for (index, event) in events.iter().enumerate() {
+        let text = event_text(alloc, event, index as u64 + 1, MOMENT)?;
+        all.extend_from_slice(text.as_slice())?;
+    }
+    Ok(all)
+}
+
+/// A text so many times.
+fn times(alloc: Global, text: &[u8], count: usize) -> Result<Bytes, Memory> {
+    let mut all = Bytes::new(alloc);
+    for _time in 0..count {
+        all.extend_from_slice(text)?;
+    }
+    Ok(all)
+}
+
+fn around(alloc: Global, before: &[u8], inner: &[u8], after: &[u8]) -> Result<Bytes, Memory> {
+    let mut all = Bytes::from_slice(alloc, before)?;
+    all.extend_from_slice(inner)?;
+    all.extend_from_slice(after)?;
+    Ok(all)
+}
+
+#[test]
+fn bodies(rt: HostRuntime) -> Result<(), Fail> {
+    let rows: [(&str, &str); 24] = [
+        ("[]", ""),
+        (" [ ] ", ""),
+        (
+            "{\"name\":\"x\"}",
+            "{\"name\":\"x\",\"data\":{},\"id\":\"evt-1\",\"ts\":1000}",
+        ),
+        (
+            "[{\"name\":\"x\",\"id\":\"i\"},{\"name\":\"x\",\"id\":\"i\"}]",
+            "{\"name\":\"x\",\"data\":{},\"id\":\"i\",\"ts\":1000}{\"name\":\"x\",\"data\":{},\"id\":\"i\",\"ts\":1000}",
+        ),
+        (
+            "[{\"name\":\"x\"},{\"data\":{}}]",
+            "{\"error\":\"no name\",\"at\":1,\"status\":400}",
+        ),
+        ("7", "{\"error\":\"no name\",\"at\":0,\"status\":400}"),
+        ("null", "{\"error\":\"no name\",\"at\":0,\"status\":400}"),
+        (
+            "\"name\"",
+            "{\"error\":\"no name\",\"at\":0,\"status\":400}",
+        ),
+        ("{}", "{\"error\":\"no name\",\"at\":0,\"status\":400}"),
+        (
+            "[{\"name\":\"x\"},[{\"name\":\"x\"}]]",
+            "{\"error\":\"no name\",\"at\":1,\"status\":400}",
+        ),
+        (
+            "{\"name\":\"\"}",
+            "{\"error\":\"no name\",\"at\":0,\"status\":400}",
+        ),
+        (
+            "{\"name\":null}",
+            "{\"error\":\"no name\",\"at\":0,\"status\":400}",
+        ),
+        (
+            "{\"name\":[\"x\"]}",
+            "{\"error\":\"no name\",\"at\":0,\"status\":400}",
+        ),
+        (
+            "{\"name\":\"x\",\"data\":[]}",
+            "{\"error\":\"data not object\",\"at\":0,\"status\":400}",
+        ),
+        (
+            "[{\"name\":\"x\",\"data\":{}},{\"name\":\"x\",\"data\":\"{}\"}]",
+            "{\"error\":\"data not object\",\"at\":1,\"status\":400}",
+        ),
+        (
+            "{\"name\":\"x\",\"data\":false}",
+            "{\"error\":\"data not object\",\"at\":0,\"status\":400}",
+        ),
+        (
+            "[{\"name\":\"x\",\"data\":1},{}]",
+            "{\"error\":\"data not object\",\"at\":0,\"status\":400}",
+        ),
+        (
+            "[{\"data\":1},{\"name\":\"x\",\"data\":1}]",
+            "{\"error\":\"no name\",\"at\":0,\"status\":400}",
+        ),
+        ("", "{\"error\":\"not json\",\"at\":0,\"status\":400}"),
+        (
+            "{\"name\":\"x\"",
+            "{\"error\":\"not json\",\"at\":11,\"status\":400}",
+        ),
+        (
+            "[{},{},]",
+            "{\"error\":\"not json\",\"at\":7,\"status\":400}",
+        ),
+        ("[{}] 1", "{\"error\":\"not json\",\"at\":5,\"status\":400}"),
+        (
+            "{\"name\":\"\\ud800\"}",
+            "{\"error\":\"not json\",\"at\":15,\"status\":400}",
+        ),
+        (
+            "{\"name\":\"\u{0}\"}",
+            "{\"error\":\"not json\",\"at\":9,\"status\":400}",
+        ),
+    ];
+    for (body, expected) in rows {
+        let text = told(rt.alloc(), body.as_bytes())?;
+        assert_eq!(&rt; text.as_slice(), expected.as_bytes(), "{body}");
+    }
+    Ok(())
+}
+
+#[test]
+fn members(rt: HostRuntime) -> Result<(), Fail> {
+    // What stands behind the member `name`, and behind its text.
+    let rows: [(&str, &str); 24] = [
+        (
+            ",\"data\":null",
+            ",\"data\":{},\"id\":\"evt-1\",\"ts\":1000}",
+        ),
+        (
+            " , \"data\" : { \"p\" : 1.50 , \"q\":[ 1e2 ] } ",
+            ",\"data\":{ \"p\" : 1.50 , \"q\":[ 1e2 ] },\"id\":\"evt-1\",\"ts\":1000}",
+        ),
+        (
+            ",\"data\":{\"p\":1.50,\"q\":1e2}",
+            ",\"data\":{\"p\":1.50,\"q\":1e2},\"id\":\"evt-1\",\"ts\":1000}",
+        ),
+        (",\"id\":\"\"", ",\"data\":{},\"id\":\"evt-1\",\"ts\":1000}"),
+        (",\"id\":7", ",\"data\":{},\"id\":\"evt-1\",\"ts\":1000}"),
+        (",\"id\":null", ",\"data\":{},\"id\":\"evt-1\",\"ts\":1000}"),
+        (
+            ",\"id\":[\"i\"]",
+            ",\"data\":{},\"id\":\"evt-1\",\"ts\":1000}",
+        ),
+        (
+            ",\"id\":\"\\u0041\\\"\\\\\\/\\n\\u001F\u{e9}\"",
+            ",\"data\":{},\"id\":\"A\\\"\\\\/\\u000a\\u001f\u{e9}\",\"ts\":1000}",
+        ),
+        (
+            ",\"id\":\"\\u0000\"",
+            ",\"data\":{},\"id\":\"\\u0000\",\"ts\":1000}",
+        ),
+        (
+            ",\"ts\":\"1\"",
+            ",\"data\":{},\"id\":\"evt-1\",\"ts\":1000}",
+        ),
+        (",\"ts\":null", ",\"data\":{},\"id\":\"evt-1\",\"ts\":1000}"),
+        (",\"ts\":1e3", ",\"data\":{},\"id\":\"evt-1\",\"ts\":1e3}"),
+        (",\"ts\":-0", ",\"data\":{},\"id\":\"evt-1\",\"ts\":-0}"),
+        (
+            ",\"user\":null",
+            ",\"data\":{},\"id\":\"evt-1\",\"ts\":1000,\"user\":null}",
+        ),
+        (
+            ",\"v\":\"\\u0041\",\"user\":{\"id\":7}",
+            ",\"data\":{},\"id\":\"evt-1\",\"ts\":1000,\"user\":{\"id\":7},\"v\":\"\\u0041\"}",
+        ),
+        (
+            ",\"total\":1,\"event\":{},\"V\":2",
+            ",\"data\":{},\"id\":\"evt-1\",\"ts\":1000}",
+        ),
+        (
+            ",\"data\":[],\"data\":{\"k\":2}",
+            ",\"data\":{\"k\":2},\"id\":\"evt-1\",\"ts\":1000}",
+        ),
+        (
+            ",\"data\":{\"k\":1},\"\\u0064ata\":null",
+            ",\"data\":{},\"id\":\"evt-1\",\"ts\":1000}",
+        ),
+        (
+            ",\"id\":\"i\",\"id\":\"j\"",
+            ",\"data\":{},\"id\":\"j\",\"ts\":1000}",
+        ),
+        (
+            ",\"id\":\"i\",\"id\":\"\"",
+            ",\"data\":{},\"id\":\"evt-1\",\"ts\":1000}",
+        ),
+        (
+            ",\"ts\":1,\"ts\":2.0",
+            ",\"data\":{},\"id\":\"evt-1\",\"ts\":2.0}",
+        ),
+        (
+            ",\"ts\":1,\"ts\":\"\"",
+            ",\"data\":{},\"id\":\"evt-1\",\"ts\":1000}",
+        ),
+        (
+            ",\"user\":1,\"user\":2",
+            ",\"data\":{},\"id\":\"evt-1\",\"ts\":1000,\"user\":2}",
+        ),
+        (
+            ",\"v\":\"1\",\"v\":\"2\"",
+            ",\"data\":{},\"id\":\"evt-1\",\"ts\":1000,\"v\":\"2\"}",
+        ),
+    ];
+    for (source, expected) in rows {
+        let body = around(rt.alloc(), b"{\"name\":\"x\"", source.as_bytes(), b"}")?;
+        let whole = around(rt.alloc(), b"{\"name\":\"x\"", expected.as_bytes(), b"")?;
+        let text = told(rt.alloc(), body.as_slice())?;
+        assert_eq!(&rt; text.as_slice(), whole.as_slice(), "{source}");
+    }
+    Ok(())
+}
+
+#[test]
+fn names(rt: HostRuntime) -> Result<(), Fail> {
+    let rows: [(&str, &str); 4] = [
+        (
+            "{\"name\":\"a\",\"name\":\"b\"}",
+            "{\"name\":\"b\",\"data\":{},\"id\":\"evt-1\",\"ts\":1000}",
+        ),
+        (
+            "{\"name\":\"a\",\"name\":1}",
+            "{\"error\":\"no name\",\"at\":0,\"status\":400}",
+        ),
+        (
+            "{\"\\u006eame\":\"shop\\/\\\"\\u00e9\"}",
+            "{\"name\":\"shop/\\\"\u{e9}\",\"data\":{},\"id\":\"evt-1\",\"ts\":1000}",
+        ),
+        (
+            "{\"name\":\"\\u0000\"}",
+            "{\"name\":\"\\u0000\",\"data\":{},\"id\":\"evt-1\",\"ts\":1000}",
+        ),
+    ];
+    for (body, expected) in rows {
+        let text = told(rt.alloc(), body.as_bytes())?;
+        assert_eq!(&rt; text.as_slice(), expected.as_bytes(), "{body}");
+    }
+    Ok(())
+}
+
+#[test]
+fn ids_are_equal_as_texts(rt: HostRuntime) -> Result<(), Fail> {
+    let body =
+        b"[{\"name\":\"x\",\"id\":\"\\u0061\"},{\"name\":\"x\",\"id\":\"a\"},{\"name\":\"x\",\"id\":\"\"}]";
+    let events = read_events(rt.alloc(), body)?;
+    let [first, second, third] = events.as_slice() else {
+        return Err(Fail::new("not three events"));
+    };
+    let (Some(first), Some(second)) = (&first.id, &second.id) else {
+        return Err(Fail::new("no id"));
+    };
+    assert_eq!(&rt; first.as_slice(), b"a".as_slice());
+    assert_eq!(&rt; second.as_slice(), b"a".as_slice());
+    assert!(&rt; third.id.is_none());
+    Ok(())
+}
+
+/// An event's text of so many bytes.
+fn event_of_size(alloc: Global, size: usize) -> Result<Bytes, Memory> {
+    let filler = times(alloc, b"a", size.saturating_sub(19))?;
+    around(
+        alloc,
+        b"{\"name\":\"x\",\"v\":\"",
+        filler.as_slice(),
+        b"\"}",
+    )
+}
+
+/// Brackets, so many opened and so many closed.
+fn brackets(alloc: Global, opened: usize, closed: usize) -> Result<Bytes, Memory> {
+    let opened = times(alloc, b"[", opened)?;
+    let closed = times(alloc, b"]", closed)?;
+    around(alloc, opened.as_slice(), closed.as_slice(), b"")
+}
+
+/// How many events a body has.
+fn count(alloc: Global, body: &[u8]) -> Result<usize, IntakeFault> {
+    Ok(read_events(alloc, body)?.len())
+}
+
+#[test]
+fn sizes(rt: HostRuntime) -> Result<(), Fail> {
+    // What stands before an event's text of so many bytes, and behind it.
+    let rows: [(&str, usize, &str, Result<usize, IntakeFault>); 9] = [
+        ("", 262_144, "", Ok(1)),
+        (" ", 262_144, "  ", Ok(1)),
+        ("", 262_145, "", Err(IntakeFault::TooLarge { index: 0 })),
+        ("[{\"name\":\"x\"}, ", 262_144, " ]", Ok(2)),
+        (
+            "[{\"name\":\"x\"},",
+            262_145,
+            "]",
+            Err(IntakeFault::TooLarge { index: 1 }),
+        ),
+        (
+            "[",
+            262_145,
+            ",{}]",
+            Err(IntakeFault::TooLarge { index: 0 }),
+        ),
+        ("[{},", 262_145, "]", Err(IntakeFault::NoName { index: 0 })),
+        (
+            "{\"name\":\"\",\"user\":",
+            262_144,
+            "}",
+            Err(IntakeFault::NoName { index: 0 }),
+        ),
+        (
+            "{\"name\":\"x\",\"user\":",
+            262_144,
+            ",\"data\":0}",
+            Err(IntakeFault::DataNotObject { index: 0 }),
+        ),
+    ];
+    for (before, size, after, expected) in rows {
+        let event = event_of_size(rt.alloc(), size)?;
+        let body = around(
+            rt.alloc(),
+            before.as_bytes(),
+            event.as_slice(),
+            after.as_bytes(),
+        )?;
+        assert_eq!(&rt; count(rt.alloc(), body.as_slice()), expected, "{before}");
+    }
+    Ok(())
+}
+
+#[test]
+fn whole_bodies(rt: HostRuntime) -> Result<(), Fail> {
+    let alloc = rt.alloc();
+    let spaces = times(alloc, b" ", 4_194_302)?;
+    let body = around(alloc, b"[", spaces.as_slice(), b"]")?;
+    assert_eq!(&rt; count(alloc, body.as_slice()), Ok(0));
+    let event = event_of_size(alloc, 262_143)?;
+    let more = around(alloc, b"", event.as_slice(), b",")?;
+    let more = times(alloc, more.as_slice(), 15)?;
+    let last = event_of_size(alloc, 262_142)?;
+    let events = around(alloc, more.as_slice(), last.as_slice(), b"")?;
+    let body = around(alloc, b"[", events.as_slice(), b"]")?;
+    assert_eq!(&rt; body.len(), 4_194_304);
+    assert_eq!(&rt; count(alloc, body.as_slice()), Ok(16));
+    Ok(())
+}
+
+#[test]
+fn counts(rt: HostRuntime) -> Result<(), Fail> {
+    // Items with a comma behind each, how many of them, and what stands behind them.
+    let rows: [(&str, usize, &str, Result<usize, IntakeFault>); 4] = [
+        ("{\"name\":\"x\"},", 999, "{\"name\":\"x\"}]", Ok(1000)),
+        (
+            "{\"name\":\"x\"},",
+            999,
+            "{}]",
+            Err(IntakeFault::NoName { index: 999 }),
+        ),
+        ("1,", 1000, "1]", Err(IntakeFault::TooMany { count: 1001 })),
+        ("1,", 1000, "1", Err(IntakeFault::NotJson { at: 2002 })),
+    ];
+    for (item, many, last, expected) in rows {
+        let items = times(rt.alloc(), item.as_bytes(), many)?;
+        let body = around(rt.alloc(), b"[", items.as_slice(), last.as_bytes())?;
+        assert_eq!(&rt; count(rt.alloc(), body.as_slice()), expected, "{item}");
+    }
+    Ok(())
+}
+
+#[test]
+fn depths(rt: HostRuntime) -> Result<(), Fail> {
+    // What stands before so many open brackets, how many are closed, and what stands behind them.
+    let rows: [(&str, usize, usize, &str, Result<usize, IntakeFault>); 5] = [
+        ("", 64, 0, "", Err(IntakeFault::NotJson { at: 64 })),
+        ("", 65, 0, "", Err(IntakeFault::NotJson { at: 64 })),
+        ("", 64, 64, "", Err(IntakeFault::NoName { index: 0 })),
+        ("{\"name\":\"x\",\"user\":", 63, 63, "}", Ok(1)),
+        (
+            "{\"name\":\"x\",\"user\":",
+            64,
+            64,
+            "}",
+            Err(IntakeFault::NotJson { at: 82 }),
+        ),
+    ];
+    for (before, opened, closed, after, expected) in rows {
+        let inner = brackets(rt.alloc(), opened, closed)?;
+        let body = around(
+            rt.alloc(),
+            before.as_bytes(),
+            inner.as_slice(),
+            after.as_bytes(),
+        )?;
+        assert_eq!(&rt; count(rt.alloc(), body.as_slice()), expected, "{before}");
+    }
+    Ok(())
+}
+
+#[test]
+fn event_texts(rt: HostRuntime) -> Result<(), Fail> {
+    let alloc = rt.alloc();
+    let event = EventIn {
+        name: Bytes::from_slice(alloc, b"shop/\x01")?,
+        content: Bytes::from_slice(alloc, b"{\"p\":1.50,\"q\":1e2}")?,
+        id: Some(Bytes::from_slice(alloc, b"\"\\\x1f")?),
+        ts: Some(Bytes::from_slice(alloc, b"1e3")?),
+        user: Some(Bytes::from_slice(alloc, b"{\"id\":7}")?),
+        v: Some(Bytes::from_slice(alloc, b"\"2024-01-01\"")?),
+    };
+    let text = event_text(alloc, &event, u64::MAX, 0)?;
+    assert_eq!(&rt;
+        text.as_slice(),
+        b"{\"name\":\"shop/\\u0001\",\"data\":{\"p\":1.50,\"q\":1e2},\"id\":\"\\\"\\\\\\u001f\",\"ts\":1e3,\"user\":{\"id\":7},\"v\":\"2024-01-01\"}".as_slice()
+    );
+    let event = EventIn {
+        id: None,
+        ts: None,
+        user: None,
+        v: None,
+        ..event
+    };
+    let text = event_text(alloc, &event, u64::MAX, 0)?;
+    assert_eq!(&rt;
+        text.as_slice(),
+        b"{\"name\":\"shop/\\u0001\",\"data\":{\"p\":1.50,\"q\":1e2},\"id\":\"evt-18446744073709551615\",\"ts\":0}".as_slice()
+    );
     Ok(())
 }
