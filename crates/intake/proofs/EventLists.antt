@@ -1,12 +1,11 @@
 -- Events that were read one after another, and those that are left.
-use Rattle.std.proofs.Common.{◌≡◌, ◌≢◌, ◌⊎◌, inl, inr, ℕ, ◌+◌, ◌<◌, ◌≤◌, zero, suc, List, [], ◌∷◌, ◌++◌, length, drop, Option, Some, None, Result, Ok, Err, refl, sym, ap, ◌∙◌, arith, append_assoc, append-nil, add-one}
+use Rattle.std.proofs.Common.{◌≡◌, ◌⊎◌, inl, inr, ℕ, ◌+◌, zero, suc, List, [], ◌∷◌, ◌++◌, drop, Some, None, Result, Ok, Err, refl, sym, ap, ◌∙◌, arith, append_assoc, append-nil}
 use Rattle.std.specs.List.{slice_get}
-use Rattle.std.proofs.lemmas.Option.{slice_get_past}
 use Rattle.json_text.specs.Grammar.{Json, null, boolean, number, text, array, object}
-use Rattle.json_text.specs.Nodes.{kind_of, parts_of, len_of, item_of}
+use Rattle.json_text.specs.Nodes.{kind_of, parts_of, item_of}
 use Rattle.json_text.specs.declared.kind.Kind.TheVariants as kind
 use Rattle.kinds.specs.declared.event.EventIn.{EventIn}
-use Rattle.intake.specs.Events.{event_of, events_from, events_in, events_of, with_events}
+use Rattle.intake.specs.Events.{event_of, events_from, with_events}
 use Rattle.intake.specs.declared.fault.IntakeFault.{IntakeFault}
 use Rattle.intake.specs.declared.fault.IntakeFault.TheVariants.{Memory}
 

@@ -60,11 +60,11 @@ fn events_in(alloc: Global, tree: &Tree<'_>, list: Node) -> Result<Items<EventIn
             count: count as u64,
         });
     }
-    items_from(alloc, tree, list, count)
+    events_from(alloc, tree, list, count)
 }
 
 /// The events of a list that has so many items.
-fn items_from(
+fn events_from(
     alloc: Global,
     tree: &Tree<'_>,
     list: Node,

@@ -1,6 +1,6 @@
 use Rattle.json_text.specs.Nodes.{value_at, parts_of}
 use Rattle.intake.proofs.EventLists.{AreRead}
-use Rattle.intake.proofs.events.items_from.Given as goal
+use Rattle.intake.proofs.events.events_from.Given as goal
 
 -- the events so far are those of the items so far
 abbrev pub invariant-loop-index : goal.invariant-loop-index

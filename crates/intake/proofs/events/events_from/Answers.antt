@@ -1,10 +1,10 @@
-use Rattle.std.proofs.Common.{◌≤◌, ◌∙◌, sym, subst, arith, rules}
+use Rattle.std.proofs.Common.{◌∙◌, sym, arith}
 use Rattle.std.proofs.lemmas.Option.{slice_get_past}
 use Rattle.std.proofs.lemmas.Result.{err_from_is_err_and}
 use Rattle.json_text.specs.Nodes.{value_at, parts_of}
-use Rattle.intake.proofs.EventLists.{AreRead, item-list, read-more, read-fault, read-all}
-use Rattle.intake.proofs.events.items_from.Goals as goal
-use Rattle.intake.proofs.events.items_from.Goals.{else-loop-index-test, then-loop-index-test+in_default}
+use Rattle.intake.proofs.EventLists.{item-list, read-more, read-fault, read-all}
+use Rattle.intake.proofs.events.events_from.Goals as goal
+use Rattle.intake.proofs.events.events_from.Goals.{else-loop-index-test, then-loop-index-test+in_default}
 
 pub returns-in_err-event_of : goal.returns-in_err-event_of
 returns-in_err-event_of c =
