@@ -3,3 +3,4 @@ pub mod Order
 pub mod Places
 pub mod Events
 pub mod Reading
+pub mod Plain

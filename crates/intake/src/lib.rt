@@ -5,6 +5,7 @@
 
 mod events;
 mod fault;
+mod laws;
 mod members;
 mod seen;
 mod timeline;
@@ -13,6 +14,7 @@ mod written;
 
 pub use events::read_events;
 pub use fault::IntakeFault;
+pub use laws::plain_texts_stay;
 pub use seen::Seen;
 pub use timeline::Entries;
 pub use written::event_text;
