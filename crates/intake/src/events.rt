@@ -1,5 +1,5 @@
 ghost use Rattle.std.specs.Prelude.{◌≡◌, ◌⊎◌, [], ◌∷◌, length, Ok, Err, MatchResult};
-ghost use Rattle.json_text.specs.Nodes.{IsNodeOf, value_at, kind_of, parts_of};
+ghost use Rattle.json_text.specs.Nodes.{IsNodeOf, items_of, value_at, kind_of};
 ghost use Rattle.json_text.specs.declared.kind.Kind.TheVariants as kind;
 ghost use Rattle.intake.specs.Events.{event_of, events_from, events_in, events_in_body, events_of};
 ghost use Rattle.intake.specs.Reading.{Gives};
@@ -52,7 +52,7 @@ fn one_event(alloc: Global, tree: &Tree<'_>, node: Node) -> Result<Items<EventIn
 fn events_in(alloc: Global, tree: &Tree<'_>, list: Node) -> Result<Items<EventIn>, IntakeFault>
     requires node { IsNodeOf tree.now list }
     requires list { kind_of (value_at tree.now list) ≡ kind.List }
-    ensures { Gives (events_in (parts_of (value_at tree.now list))) result }
+    ensures { Gives (events_in (items_of (value_at tree.now list))) result }
 {
     let count = tree.len(list);
     if count > MOST_EVENTS {
@@ -60,27 +60,18 @@ fn events_in(alloc: Global, tree: &Tree<'_>, list: Node) -> Result<Items<EventIn
             count: count as u64,
         });
     }
-    events_from(alloc, tree, list, count)
+    events_from(alloc, tree, list)
 }
 
-/// The events of a list that has so many items.
-fn events_from(
-    alloc: Global,
-    tree: &Tree<'_>,
-    list: Node,
-    count: usize,
-) -> Result<Items<EventIn>, IntakeFault>
-    requires node { IsNodeOf tree.now list }
-    requires list { kind_of (value_at tree.now list) ≡ kind.List }
-    requires count { count ≡ length (parts_of (value_at tree.now list)) }
-    ensures { Gives (events_from 0 (parts_of (value_at tree.now list))) result }
+/// The events of a list, in order.
+fn events_from(alloc: Global, tree: &Tree<'_>, list: Node) -> Result<Items<EventIn>, IntakeFault>
+    requires { IsNodeOf tree.now list }
+    ensures { Gives (events_from 0 (items_of (value_at tree.now list))) result }
 {
     let mut events = Items::new(alloc);
-    for index in 0..count {
-        let Some(node) = tree.item(list, index) else {
-            break;
-        };
-        events.push(event_of(alloc, tree, node, index as u64)?)?;
+    for node in tree.items(list) {
+        let index = events.len() as u64;
+        events.push(event_of(alloc, tree, node, index)?)?;
     }
     Ok(events)
 }

@@ -1,7 +1,10 @@
-use Rattle.json_text.specs.Nodes.{value_at, parts_of}
-use Rattle.intake.proofs.EventLists.{AreRead}
+-- The events so far are those of the items so far, and the nodes that are left are those of the others.
+use Rattle.json_text.specs.Nodes.{items_of, value_at}
+use Rattle.intake.proofs.EventLists.{IsReading}
 use Rattle.intake.proofs.events.events_from.Given as goal
 
--- the events so far are those of the items so far
-abbrev pub invariant-loop-index : goal.invariant-loop-index
-invariant-loop-index l = AreRead (parts_of (value_at l.tree l.list)) l.index l.events
+abbrev pub invariant-loop-node : goal.invariant-loop-node
+invariant-loop-node l =
+    (goal.iterator-loop-node).can_next l.node-iterator ×
+    (goal.iterator-loop-node).is_finite l.node-iterator ×
+    IsReading l.tree (items_of (value_at l.tree l.fn.list)) l.node-iterator l.events
