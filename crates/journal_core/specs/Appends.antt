@@ -1,9 +1,9 @@
 -- What opening and appending do to file A, and what a stop within them may leave.
-use Rattle.std.specs.Prelude.{ℕ, ◌≡◌, ◌≤◌, ◌+◌, List, [], ◌∷◌, ◌++◌, length, take, drop, Result, OnOk}
+use Rattle.std.specs.Prelude.{ℕ, ◌≡◌, ◌≤◌, ◌+◌, ◌⊎◌, List, [], ◌∷◌, ◌++◌, length, take, drop, Result, OnOk, OnErr}
 use Rattle.rig.specs.Disk.{IsImage, settled, file_of, with_file}
 use Rattle.rig.specs.Told.{Moment, History, Since, reads_of}
 use Rattle.rig.specs.declared.side.Side.TheVariants.{A}
-use Rattle.journal_core.specs.Records.{contents, spelled}
+use Rattle.journal_core.specs.Records.{contents, spelled, StandsFor}
 
 -- File A is whole records, all of it on the disk, and has so many bytes.
 pub record IsReady (end : ℕ) (now : Moment) : Type 0 where
@@ -28,20 +28,30 @@ pub record IsWithinAppend (payload : List ℕ) (old moment : Moment) : Type 0 wh
   pub elsewhere : IsElsewhereSame old moment
   pub images : (image : List ℕ) → IsImage (file_of A moment.disk) image → IsTorn payload (reads_of A old) image
 
--- The payload was added. A call that failed leaves a moment of the append.
-pub record IsAppended {T E : Type 0} (payload : List ℕ) (result : Result T E) (old new : History) : Type 0 where
+-- The file reads as before, or has the payload's record behind that, and is whole records in both cases.
+abbrev pub IsBeforeOrAfter : List ℕ → List ℕ → List ℕ → Type 0
+IsBeforeOrAfter payload old new =
+    ((new ≡ old) × StandsFor (contents old).payloads new)
+    ⊎ ((new ≡ old ++ spelled payload) × StandsFor ((contents old).payloads ++ payload ∷ []) new)
+
+-- The payload was added. A call that failed leaves a moment of the append, and of a steady rig nothing
+-- of the payload's record or all of it.
+pub record IsAppended {T E : Type 0} (steady : Type 0) (payload : List ℕ) (result : Result T E) (old new : History) : Type 0 where
   pub steps : Since (IsWithinAppend payload old.now) old new
   pub left : IsWithinAppend payload old.now new.now
   pub kept : OnOk result (file_of A new.now.disk ≡ settled (reads_of A old.now ++ spelled payload))
   pub stands : OnOk result ((contents (reads_of A new.now)).payloads ≡ (contents (reads_of A old.now)).payloads ++ payload ∷ [])
+  pub whole : OnErr result (steady → IsBeforeOrAfter payload (reads_of A old.now) (reads_of A new.now))
 
 -- a moment of an opening
 pub record IsWithinOpening (old moment : Moment) : Type 0 where
   pub elsewhere : IsElsewhereSame old moment
   pub images : (image : List ℕ) → IsImage (file_of A moment.disk) image → IsImage (file_of A old.disk) image
 
--- The empty file is on the disk.
-pub record IsOpened {T E : Type 0} (result : Result T E) (old new : History) : Type 0 where
+-- The empty file is on the disk. A call that failed leaves a moment of the opening, and of a steady rig the
+-- file as it was.
+pub record IsOpened {T E : Type 0} (steady : Type 0) (result : Result T E) (old new : History) : Type 0 where
   pub steps : Since (IsWithinOpening old.now) old new
   pub left : IsWithinOpening old.now new.now
   pub kept : OnOk result (file_of A new.now.disk ≡ settled [])
+  pub idle : OnErr result (steady → file_of A new.now.disk ≡ file_of A old.now.disk)

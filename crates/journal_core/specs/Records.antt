@@ -1,6 +1,6 @@
 -- The first format of a journal: records one after another from offset 0, each a length of four bytes,
 -- the highest first, and a payload of so many.
-use Rattle.std.specs.Prelude.{ℕ, zero, suc, ◌+◌, nat_le, Bool, true, false, ◌&&◌, List, [], ◌∷◌, ◌++◌, length, take, drop}
+use Rattle.std.specs.Prelude.{ℕ, ◌≡◌, zero, suc, ◌+◌, nat_le, Bool, true, false, ◌&&◌, List, [], ◌∷◌, ◌++◌, length, take, drop}
 use Rattle.std.specs.Int.{w32, to_be_bytes, from_be_bytes}
 
 -- the greatest length of a payload
@@ -43,3 +43,7 @@ read_records (suc n) bytes = with_first (begins_whole bytes) bytes (read_records
 -- Each record takes a byte at least.
 unfoldable pub contents : List ℕ → Contents
 contents bytes = read_records (length bytes) bytes
+
+-- these bytes are whole records, and stand for these payloads
+abbrev pub StandsFor : List (List ℕ) → List ℕ → Type 0
+StandsFor payloads bytes = contents bytes ≡ record { payloads = payloads; rest = [] }

@@ -58,9 +58,10 @@ impl Journal {
     /// Opens an empty file, and takes the room that appending needs.
     pub fn open<R: Rig>(alloc: Global, rig: &mut R) -> Result<Self, JournalFault>
         requires { WhereTold R.tells rig.old (λ now. reads_of Side.A now ≡ []) }
-        ensures told { GoesOn R.tells rig.old rig.new (IsOpened result) }
+        ensures told { GoesOn R.tells rig.old rig.new (IsOpened (R.steady rig.old) result) }
         ensures ready { IfOk result (λ journal. WhereTold R.tells rig.new (IsReady journal)) }
         ensures tells { StillTells R.tells rig.old rig.new }
+        ensures steady { R.steady rig.old → R.steady rig.new }
         ensures cause { IsErrOf result JournalFault.Disk → HasRisen (R.disk_faults rig.old) (R.disk_faults rig.new) }
         ensures disk_faults { R.disk_faults rig.old ≤ R.disk_faults rig.new }
         ensures net_faults { R.net_faults rig.new ≡ R.net_faults rig.old }
@@ -72,14 +73,16 @@ impl Journal {
     }
 
     /// Adds a payload of 1 to 8,388,608 bytes behind the others. At `Ok` it is on the disk. After a
-    /// fault the file is opened again.
+    /// fault the file is opened again. A rig that fails only for want of memory then has nothing of the
+    /// payload in it, or all of its record.
     pub fn append<R: Rig>(mut self, rig: &mut R, payload: &[u8]) -> Result<Self, DiskFailed>
         requires some { 0 < length payload.now }
         requires fits { length payload.now ≤ greatest }
         requires ready { WhereTold R.tells rig.old (IsReady self) }
-        ensures told { GoesOn R.tells rig.old rig.new (IsAppended payload.now result) }
+        ensures told { GoesOn R.tells rig.old rig.new (IsAppended (R.steady rig.old) payload.now result) }
         ensures ready { IfOk result (λ journal. WhereTold R.tells rig.new (IsReady journal)) }
         ensures tells { StillTells R.tells rig.old rig.new }
+        ensures steady { R.steady rig.old → R.steady rig.new }
         ensures cause { OnErr result (HasRisen (R.disk_faults rig.old) (R.disk_faults rig.new)) }
         ensures disk_faults { R.disk_faults rig.old ≤ R.disk_faults rig.new }
         ensures net_faults { R.net_faults rig.new ≡ R.net_faults rig.old }

@@ -96,17 +96,17 @@ broken_images begun old new image more (inl same) is = more image (subst (λ (f 
 broken_images begun old new image more (inr broken) is = same_images begun broken.0 image (subst (λ (f : File). IsImage f image) broken.2 is)
 
 -- After a write, done or failed, each image is one of a write that has begun.
-pub images_after_write : {E : Type 0} (at : ℕ) (bytes : List ℕ) (result : Result (Unit {0}) E) (old new : File) (image : List ℕ) → IsWritten at bytes result old new → IsImage new image → IsImage (write_begun at (length bytes) old) image
+pub images_after_write : {E : Type 0} {steady : Type 0} (at : ℕ) (bytes : List ℕ) (result : Result (Unit {0}) E) (old new : File) (image : List ℕ) → IsWritten steady at bytes result old new → IsImage new image → IsImage (write_begun at (length bytes) old) image
 images_after_write at bytes (Ok _) old new image h is = same_images (write_begun at (length bytes) old) (write_done at bytes old).reads image (subst (λ (f : File). IsImage f image) h.done is)
 images_after_write at bytes (Err _) old new image h is = broken_images (write_begun at (length bytes) old) old new image (image_in_write at (length bytes) old) h.failed is
 
 -- the same of a cut
-pub images_after_cut : {E : Type 0} (len : ℕ) (result : Result (Unit {0}) E) (old new : File) (image : List ℕ) → IsCut len result old new → IsImage new image → IsImage (cut_begun len old) image
+pub images_after_cut : {E : Type 0} {steady : Type 0} (len : ℕ) (result : Result (Unit {0}) E) (old new : File) (image : List ℕ) → IsCut steady len result old new → IsImage new image → IsImage (cut_begun len old) image
 images_after_cut len (Ok _) old new image h is = same_images (cut_begun len old) (cut_done len old).reads image (subst (λ (f : File). IsImage f image) h.done is)
 images_after_cut len (Err _) old new image h is = broken_images (cut_begun len old) old new image (image_in_cut len old) h.failed is
 
 -- After a sync, done or failed, each image is one of those before it.
-pub images_after_sync : {E : Type 0} (result : Result (Unit {0}) E) (old new : File) (image : List ℕ) → IsSound old → IsSynced result old new → IsImage new image → IsImage old image
+pub images_after_sync : {E : Type 0} {steady : Type 0} (result : Result (Unit {0}) E) (old new : File) (image : List ℕ) → IsSound old → IsSynced steady result old new → IsImage new image → IsImage old image
 images_after_sync (Ok _) old new image sound h is =
     subst (λ (i : List ℕ). IsImage old i) (sym (settled_image old.reads image (subst (λ (f : File). IsImage f image) h.done is))) sound.reads
 images_after_sync (Err _) old new image sound h is = broken_images old old new image (λ i h. h) h.failed is

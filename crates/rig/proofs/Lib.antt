@@ -2,6 +2,7 @@ mod FailedWrites
 pub mod Histories
 pub mod Images
 mod MemoryFiles
+pub mod MemoryMoments
 mod MemoryRigSteps
 mod Overwritten
 mod Pieces

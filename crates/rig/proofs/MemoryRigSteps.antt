@@ -1,9 +1,11 @@
 -- What a call of the rig in memory adds to what it tells.
-use Rattle.std.proofs.Common.{◌≡◌, ◌<◌, ◌≤◌, ◌+◌, ◌∷◌, ◌∙◌, ℕ, List, Bool, true, false, length, Ok, Err, inr, refl, sym, ap, subst}
+use Rattle.std.proofs.Common.{◌≡◌, ◌<◌, ◌≤◌, ◌+◌, ◌∷◌, ◌∙◌, ℕ, List, Bool, true, false, Option, None, length, Ok, Err, inr, refl, sym, ap, subst}
 use Rattle.rig.specs.Disk.{File, IsSoundDisk, IsWritten, IsCut, overwritten, write_begun, cut_begun, cut_done, file_of, with_file}
 use Rattle.rig.specs.MemoryFile.{MemoryFile, IsKept, file_in, wrote, was_cut}
-use Rattle.rig.specs.MemoryRig.{MemoryRig, Does, rig_tells, moment_of, disk_of, after_change, after_reading, memory_file, with_memory_file}
+use Rattle.rig.specs.MemoryRig.{MemoryRig, Does, rig_tells, moment_of, disk_of, after_change, after_reading, change_fault, IsSteady, memory_file, with_memory_file}
 use Rattle.rig.specs.Told.{Moment, IsStep, GoesOn, StillTells, NotesReading, OnFile}
+use Rattle.std.specs.Option.{is_some}
+use Rattle.rig.specs.declared.faults.FailForm.{FailForm}
 use Rattle.rig.specs.declared.side.Side.{Side}
 use Rattle.rig.specs.declared.side.Side.TheVariants.{A, B}
 use Rattle.rig.proofs.Images.{same_images}
@@ -49,36 +51,48 @@ does_told old new change h = rig_goes_on old new change (λ told. sym h.telling 
 pub does_tells : (old new : MemoryRig) (change : Moment → Moment → Type 0) → Does change old new → StillTells rig_tells old new
 does_tells old new change h = rig_still_tells old new (λ told. h.telling ∙ told) h.after
 
--- one file of the rig changed
-pub does_file : (side : Side) (change : File → File → Type 0) (rig : MemoryRig) (file : MemoryFile) → IsSoundDisk (disk_of rig) → IsSoundDisk (disk_of (with_memory_file side file rig)) → change (file_in (memory_file side rig)) (file_in file) → Does (OnFile side change) rig (with_memory_file side file rig)
-does_file A change rig file old new h = record { telling = refl; before = λ _. old; after = λ _. new; changed = record { rest = refl; file = h } }
-does_file B change rig file old new h = record { telling = refl; before = λ _. old; after = λ _. new; changed = record { rest = refl; file = h } }
+-- ---- steadiness
+
+pub steady_change : (rig : MemoryRig) → IsSteady rig → IsSteady (after_change rig)
+steady_change rig is = record {
+  failing = is.failing;
+  stop = rw is.stop refl;
+  stopped = rw (is.stop, is.stopped) refl;
+}
+
+-- no call of a steady rig is set to fail
+pub steady_sets_none : (rig : MemoryRig) → IsSteady rig → change_fault rig ≡ None
+steady_sets_none rig is = rw (is.stop, is.stopped, is.failing) refl
+
+pub steady_never_fails : (rig : MemoryRig) (fault : Option FailForm) → fault ≡ change_fault rig → is_some fault ≡ true → IsSteady rig → ⊥
+steady_never_fails rig fault is fails steady =
+    let wrong : false ≡ true = sym (ap is_some (is ∙ steady_sets_none rig steady)) ∙ fails in cc
 
 -- a write that went well
-pub writes_file : {E : Type 0} (at : ℕ) (bytes : List ℕ) (file : MemoryFile) → at ≤ length file.bytes → IsWritten {E = E} at bytes (Ok tt) (file_in file) (file_in (wrote at (length bytes) bytes file))
-writes_file at bytes file inside = record { done = file_in-wrote at (length bytes) bytes file inside; failed = tt }
+pub writes_file : {E : Type 0} {steady : Type 0} (at : ℕ) (bytes : List ℕ) (file : MemoryFile) → at ≤ length file.bytes → IsWritten {E = E} steady at bytes (Ok tt) (file_in file) (file_in (wrote at (length bytes) bytes file))
+writes_file at bytes file inside = record { done = file_in-wrote at (length bytes) bytes file inside; failed = tt; idle = tt }
 
 -- one that failed after a part of it
-pub breaks_write : {E : Type 0} (at : ℕ) (bytes part : List ℕ) (error : E) (file : MemoryFile) → IsKept file → at ≤ length file.bytes → length part ≤ length bytes → at + length bytes < 9223372036854775808 → IsWritten {E = E} at bytes (Err error) (file_in file) (file_in (wrote at (length bytes) part file))
-breaks_write at bytes part error file kept inside fits short =
+pub breaks_write : {E : Type 0} {steady : Type 0} (at : ℕ) (bytes part : List ℕ) (error : E) (file : MemoryFile) → (steady → ⊥) → IsKept file → at ≤ length file.bytes → length part ≤ length bytes → at + length bytes < 9223372036854775808 → IsWritten {E = E} steady at bytes (Err error) (file_in file) (file_in (wrote at (length bytes) part file))
+breaks_write at bytes part error file never kept inside fits short =
     let sound = sound-begun_reads at (length bytes) part (file_in file) kept.sound inside fits short in
     let begun = write_begun at (length bytes) (file_in file) in
     let image = overwritten at part file.bytes in
-    record { done = tt; failed = inr (image, same_images begun image image sound.reads, file_in-wrote at (length bytes) part file inside) }
+    record { done = tt; failed = inr (image, same_images begun image image sound.reads, file_in-wrote at (length bytes) part file inside); idle = λ is. absurd (never is) }
 
-pub cuts_file : {E : Type 0} (len : ℕ) (file : MemoryFile) → IsCut {E = E} len (Ok tt) (file_in file) (file_in (was_cut len file))
-cuts_file len file = record { done = file_in-was_cut len file; failed = tt }
+pub cuts_file : {E : Type 0} {steady : Type 0} (len : ℕ) (file : MemoryFile) → IsCut {E = E} steady len (Ok tt) (file_in file) (file_in (was_cut len file))
+cuts_file len file = record { done = file_in-was_cut len file; failed = tt; idle = tt }
 
 -- a cut that was done and failed all the same
-pub breaks_cut : {E : Type 0} (len : ℕ) (error : E) (file : MemoryFile) → IsKept file → len ≤ length file.bytes → IsCut {E = E} len (Err error) (file_in file) (file_in (was_cut len file))
-breaks_cut len error file kept inside =
+pub breaks_cut : {E : Type 0} {steady : Type 0} (len : ℕ) (error : E) (file : MemoryFile) → (steady → ⊥) → IsKept file → len ≤ length file.bytes → IsCut {E = E} steady len (Err error) (file_in file) (file_in (was_cut len file))
+breaks_cut len error file never kept inside =
     let sound = sound-cut_done len (file_in file) kept.sound inside in
     let image = (cut_done len (file_in file)).reads in
-    record { done = tt; failed = inr (image, same_images (cut_begun len (file_in file)) image image sound.reads, file_in-was_cut len file) }
+    record { done = tt; failed = inr (image, same_images (cut_begun len (file_in file)) image image sound.reads, file_in-was_cut len file); idle = λ is. absurd (never is) }
 
 does_change_then : (side : Side) (change : File → File → Type 0) (rig : MemoryRig) (file : MemoryFile) (faults : ℕ) → IsSoundDisk (disk_of rig) → IsSoundDisk (disk_of (with_memory_file side file (after_change rig))) → change (file_in (memory_file side (after_change rig))) (file_in file) → Does (OnFile side change) rig (record (with_memory_file side file (after_change rig)) { disk_faults = faults })
-does_change_then A change rig file faults old new h = record { telling = refl; before = λ _. old; after = λ _. new; changed = record { rest = refl; file = h } }
-does_change_then B change rig file faults old new h = record { telling = refl; before = λ _. old; after = λ _. new; changed = record { rest = refl; file = h } }
+does_change_then A change rig file faults old new h = record { telling = refl; steady = λ is. let k = steady_change rig is in record { failing = k.failing; stop = k.stop; stopped = k.stopped }; before = λ _. old; after = λ _. new; changed = record { rest = refl; file = h } }
+does_change_then B change rig file faults old new h = record { telling = refl; steady = λ is. let k = steady_change rig is in record { failing = k.failing; stop = k.stop; stopped = k.stopped }; before = λ _. old; after = λ _. new; changed = record { rest = refl; file = h } }
 
 -- a write, a cut or a sync was counted, changed its file so, and may then have counted a fault
 pub does_change : (side : Side) (change : File → File → Type 0) (makes : MemoryFile → MemoryFile) (rig counted made : MemoryRig) (faults : ℕ) → counted ≡ after_change rig → made ≡ with_memory_file side (makes (memory_file side counted)) counted → IsSoundDisk (disk_of counted) → IsSoundDisk (disk_of made) → change (file_in (memory_file side counted)) (file_in (makes (memory_file side counted))) → Does (OnFile side change) rig (record made { disk_faults = faults })

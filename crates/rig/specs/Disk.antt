@@ -58,20 +58,23 @@ sync_done file = settled file.reads
 abbrev pub BreaksOff : File → File → File → Type 0
 BreaksOff begun old new = (new ≡ old) ⊎ ((image : List ℕ) × IsImage begun image × (new ≡ record begun { reads = image }))
 
--- these bytes were written at this offset
-pub record IsWritten {E : Type 0} (at : ℕ) (bytes : List ℕ) (result : Result (Unit {0}) E) (old new : File) : Type 0 where
+-- These bytes were written at this offset. Of a steady rig a write that failed did nothing.
+pub record IsWritten {E : Type 0} (steady : Type 0) (at : ℕ) (bytes : List ℕ) (result : Result (Unit {0}) E) (old new : File) : Type 0 where
   pub done : OnOk result (new ≡ write_done at bytes old)
   pub failed : OnErr result (BreaksOff (write_begun at (length bytes) old) old new)
+  pub idle : OnErr result (steady → new ≡ old)
 
 -- the file was cut to this length
-pub record IsCut {E : Type 0} (len : ℕ) (result : Result (Unit {0}) E) (old new : File) : Type 0 where
+pub record IsCut {E : Type 0} (steady : Type 0) (len : ℕ) (result : Result (Unit {0}) E) (old new : File) : Type 0 where
   pub done : OnOk result (new ≡ cut_done len old)
   pub failed : OnErr result (BreaksOff (cut_begun len old) old new)
+  pub idle : OnErr result (steady → new ≡ old)
 
 -- all of the file was brought to the disk
-pub record IsSynced {E : Type 0} (result : Result (Unit {0}) E) (old new : File) : Type 0 where
+pub record IsSynced {E : Type 0} (steady : Type 0) (result : Result (Unit {0}) E) (old new : File) : Type 0 where
   pub done : OnOk result (new ≡ sync_done old)
   pub failed : OnErr result (BreaksOff old old new)
+  pub idle : OnErr result (steady → new ≡ old)
 
 pub record Disk : Type 0 where
   pub a : File

@@ -1,13 +1,13 @@
 -- A rig in memory: what it tells, and how it is set to behave.
-use Rattle.std.specs.Prelude.{ℕ, ◌≡◌, ◌-◌, ◌==◌, ◌||◌, Bool, true, false, List, [], ◌∷◌, ◌++◌, drop, find, Option, Some, None, if◌then◌else◌, nat_lt, nat_le}
+use Rattle.std.specs.Prelude.{ℕ, ◌≡◌, ◌<◌, ◌≤◌, ◌+◌, ◌-◌, ◌/◌, ◌==◌, ◌||◌, ◌⊎◌, length, take, Bool, true, false, List, [], ◌∷◌, ◌++◌, drop, find, Option, Some, None, if◌then◌else◌, nat_lt, nat_le}
 use Rattle.std.specs.Option.{option_map}
 use Rattle.rig.specs.Disk.{Disk, IsSoundDisk, IsDiskImage}
-use Rattle.rig.specs.Faults.{one_more}
-use Rattle.rig.specs.MemoryFile.{MemoryFile, file_in, settled_file, image_of}
+use Rattle.rig.specs.Faults.{HasRisen, one_more}
+use Rattle.rig.specs.MemoryFile.{MemoryFile, file_in, settled_file, wrote, was_cut, image_of}
 use Rattle.rig.specs.Told.{Moment, History}
 use Rattle.rig.specs.declared.entries.AskedEntry.{AskedEntry}
 use Rattle.rig.specs.declared.faults.FailForm.{FailForm}
-use Rattle.rig.specs.declared.faults.FailForm.TheVariants.{Nothing, All}
+use Rattle.rig.specs.declared.faults.FailForm.TheVariants.{Nothing, Half, All}
 use Rattle.rig.specs.declared.faults.FailedCall.{FailedCall}
 use Rattle.rig.specs.declared.memory_file.Image.{Image}
 use Rattle.rig.specs.declared.side.Side.{Side}
@@ -114,9 +114,62 @@ after_change rig = record rig {
   stopped = rig.stopped || stops_now rig.stop;
 }
 
--- One call, which changed the present so, and ended neither the telling nor what holds of the disk.
+-- No call on the disk is set to fail, and no stop is set or has been.
+pub record IsSteady (rig : MemoryRig) : Type 0 where
+  pub failing : rig.failing ≡ []
+  pub stop : rig.stop ≡ None
+  pub stopped : rig.stopped ≡ false
+
+-- how many of a write's bytes are written
+abbrev pub part_of : Option FailForm → ℕ → ℕ
+part_of (Some Half) len = len / 2
+part_of (Some Nothing) len = len
+part_of (Some All) len = len
+part_of None len = len
+
+-- what a write that fails so has made of its file
+abbrev pub part_written : Option FailForm → ℕ → List ℕ → MemoryFile → MemoryFile
+part_written None at bytes file = file
+part_written (Some Nothing) at bytes file = file
+part_written (Some Half) at bytes file = wrote at (length bytes) (take (length bytes / 2) bytes) file
+part_written (Some All) at bytes file = wrote at (length bytes) bytes file
+
+-- what a cut that fails so has made of its file
+abbrev pub part_cut : Option FailForm → ℕ → MemoryFile → MemoryFile
+part_cut None len file = file
+part_cut (Some Nothing) len file = file
+part_cut (Some Half) len file = file
+part_cut (Some All) len file = was_cut len file
+
+-- the rig, with the counts of faults that another has
+abbrev pub counted_as : MemoryRig → MemoryRig → MemoryRig
+counted_as counts rig = record rig { disk_faults = counts.disk_faults; starved = counts.starved }
+
+-- the bytes can't be written there, or memory was wanting
+abbrev pub CannotWrite : ℕ → List ℕ → MemoryFile → ℕ → ℕ → Type 0
+CannotWrite at bytes file starved_old starved_new = (length file.bytes < at) ⊎ (9223372036854775808 ≤ at + length bytes) ⊎ HasRisen starved_old starved_new
+
+-- the file can't be cut so, or memory was wanting
+abbrev pub CannotCut : ℕ → MemoryFile → ℕ → ℕ → Type 0
+CannotCut len file starved_old starved_new = (length file.bytes < len) ⊎ HasRisen starved_old starved_new
+
+-- A write that failed has done what the form says that is set for it; where it couldn't be, nothing.
+abbrev pub IsAfterFailedWrite : Side → ℕ → List ℕ → MemoryRig → MemoryRig → Type 0
+IsAfterFailedWrite side at bytes old new =
+    (new ≡ counted_as new (with_memory_file side (part_written (change_fault old) at bytes (memory_file side old)) (after_change old)))
+    ⊎ ((new ≡ counted_as new (after_change old)) × CannotWrite at bytes (memory_file side old) old.starved new.starved)
+
+-- the same of a cut
+abbrev pub IsAfterFailedCut : Side → ℕ → MemoryRig → MemoryRig → Type 0
+IsAfterFailedCut side len old new =
+    (new ≡ counted_as new (with_memory_file side (part_cut (change_fault old) len (memory_file side old)) (after_change old)))
+    ⊎ ((new ≡ counted_as new (after_change old)) × CannotCut len (memory_file side old) old.starved new.starved)
+
+-- One call, which changed the present so, and ended neither the telling nor the steadiness, nor what
+-- holds of the disk.
 pub record Does (change : Moment → Moment → Type 0) (old new : MemoryRig) : Type 0 where
   pub telling : new.telling ≡ old.telling
+  pub steady : IsSteady old → IsSteady new
   pub before : IsSoundDisk (disk_of new) → IsSoundDisk (disk_of old)
   pub after : IsSoundDisk (disk_of old) → IsSoundDisk (disk_of new)
   pub changed : change (moment_of old) (moment_of new)

@@ -3,7 +3,7 @@ ghost use Rattle.std.specs.Option.{option_map};
 ghost use Rattle.rig.specs.Disk.{IsSoundDisk, IsWritten, IsCut, IsSynced};
 ghost use Rattle.rig.specs.Faults.{HasRisen, RisesOnErr, one_more};
 ghost use Rattle.rig.specs.MemoryFile.{IsKept, wrote, was_cut, settled_file};
-ghost use Rattle.rig.specs.MemoryRig.{MemoryRig, fresh_rig, disk_of, rig_tells, memory_file, with_memory_file, next_reading, after_now, look_fault, after_look, change_fault, after_change, Does, restarted, LeavesImage};
+ghost use Rattle.rig.specs.MemoryRig.{MemoryRig, fresh_rig, disk_of, rig_tells, memory_file, with_memory_file, next_reading, after_now, look_fault, after_look, change_fault, after_change, part_of, IsAfterFailedWrite, IsAfterFailedCut, CannotWrite, CannotCut, IsSteady, Does, restarted, LeavesImage};
 ghost use Rattle.rig.specs.MemoryRigLaws.{one_now_lem, sound_lem};
 ghost use Rattle.rig.specs.Told.{GoesOn, StillTells, WhereTold, IsStep, Stays, NotesReading, Asks, OnFile, IsSize, IsRead, reads_of};
 
@@ -355,7 +355,7 @@ impl MemRig {
         ensures kept { IsKept (memory_file file self.old) }
         ensures sound_before { IsSoundDisk (disk_of self.old) }
         ensures sound_after { OnOk result (IsSoundDisk (disk_of self.new)) }
-        ensures why { OnErr result ((length (memory_file file self.old).bytes < at) ⊎ (9223372036854775808 ≤ at + length bytes.now) ⊎ HasRisen self.old.starved self.new.starved) }
+        ensures why { OnErr result (CannotWrite at bytes.now (memory_file file self.old) self.old.starved self.new.starved) }
         ensures cause { OnErr result (HasRisen self.old.disk_faults self.new.disk_faults) }
         ensures disk_faults { self.old.disk_faults ≤ self.new.disk_faults }
         ensures net_faults { self.new.net_faults ≡ self.old.net_faults }
@@ -384,7 +384,7 @@ impl MemRig {
         ensures kept { IsKept (memory_file file self.old) }
         ensures sound_before { IsSoundDisk (disk_of self.old) }
         ensures sound_after { OnOk result (IsSoundDisk (disk_of self.new)) }
-        ensures why { OnErr result ((length (memory_file file self.old).bytes < len) ⊎ HasRisen self.old.starved self.new.starved) }
+        ensures why { OnErr result (CannotCut len (memory_file file self.old) self.old.starved self.new.starved) }
         ensures cause { OnErr result (HasRisen self.old.disk_faults self.new.disk_faults) }
         ensures disk_faults { self.old.disk_faults ≤ self.new.disk_faults }
         ensures net_faults { self.new.net_faults ≡ self.old.net_faults }
@@ -465,7 +465,7 @@ impl MemRig {
     }
 
     fn do_write(&mut self, file: Side, at: u64, bytes: &[u8]) -> Result<(), DiskFailed>
-        ensures does { Does (OnFile file (IsWritten at bytes.now result)) self.old self.new }
+        ensures does { Does (OnFile file (IsWritten (IsSteady self.old) at bytes.now result)) self.old self.new }
         ensures fits { OnOk result (at + length bytes.now < 9223372036854775808) }
         ensures cause { OnErr result (HasRisen self.old.disk_faults self.new.disk_faults) }
         ensures disk_faults { self.old.disk_faults ≤ self.new.disk_faults }
@@ -489,7 +489,7 @@ impl MemRig {
     }
 
     fn do_cut(&mut self, file: Side, len: u64) -> Result<(), DiskFailed>
-        ensures does { Does (OnFile file (IsCut len result)) self.old self.new }
+        ensures does { Does (OnFile file (IsCut (IsSteady self.old) len result)) self.old self.new }
         ensures fits { OnOk result (len < 9223372036854775808) }
         ensures cause { OnErr result (HasRisen self.old.disk_faults self.new.disk_faults) }
         ensures disk_faults { self.old.disk_faults ≤ self.new.disk_faults }
@@ -497,8 +497,8 @@ impl MemRig {
         ensures starved { RisesOnErr result self.old.starved self.new.starved }
         ensures telling { self.new.telling ≡ self.old.telling }
         ensures done { OnOk result (self.new ≡ with_memory_file file (was_cut len (memory_file file self.old)) (after_change self.old)) }
-        ensures left { OnErr result (self.new ≡ record (after_change self.old) { a = self.new.a; b = self.new.b; disk_faults = self.new.disk_faults; starved = self.new.starved }) }
-        ensures why { OnErr result (IsSome (change_fault self.old) ⊎ (length (memory_file file self.old).bytes < len) ⊎ HasRisen self.old.starved self.new.starved) }
+        ensures left { OnErr result (IsAfterFailedCut file len self.old self.new) }
+        ensures why { OnErr result (IsSome (change_fault self.old) ⊎ CannotCut len (memory_file file self.old) self.old.starved self.new.starved) }
         ensures set { IsSome (change_fault self.old) → IsErr result }
     {
         let fault = self.count_change();
@@ -513,7 +513,7 @@ impl MemRig {
     }
 
     fn do_sync(&mut self, file: Side) -> Result<(), DiskFailed>
-        ensures does { Does (OnFile file (IsSynced result)) self.old self.new }
+        ensures does { Does (OnFile file (IsSynced (IsSteady self.old) result)) self.old self.new }
         ensures cause { OnErr result (HasRisen self.old.disk_faults self.new.disk_faults) }
         ensures disk_faults { self.old.disk_faults ≤ self.new.disk_faults }
         ensures net_faults { self.new.net_faults ≡ self.old.net_faults }
@@ -565,6 +565,8 @@ impl Rig for MemRig {
 
     ghost starved = { λ rig. rig.starved };
 
+    ghost steady = { IsSteady };
+
     ghost one_now = { one_now_lem };
 
     ghost sound = { sound_lem };
@@ -572,6 +574,7 @@ impl Rig for MemRig {
     fn attach(&mut self, dir: &str) -> Result<(), DiskFailed>
         ensures told { GoesOn rig_tells self.old self.new (IsStep (Asks (AskedEntry.Attach dir.now) self.old.starved self.new.starved)) }
         ensures tells { StillTells rig_tells self.old self.new }
+        ensures steady { IsSteady self.old → IsSteady self.new }
         ensures cause { OnErr result (HasRisen self.old.disk_faults self.new.disk_faults) }
         ensures disk_faults { self.old.disk_faults ≤ self.new.disk_faults }
         ensures net_faults { self.new.net_faults ≡ self.old.net_faults }
@@ -590,6 +593,7 @@ impl Rig for MemRig {
     fn size(&mut self, file: Side) -> Result<u64, DiskFailed>
         ensures told { GoesOn rig_tells self.old self.new (IsStep (IsSize file result)) }
         ensures tells { StillTells rig_tells self.old self.new }
+        ensures steady { IsSteady self.old → IsSteady self.new }
         ensures fits { IfOk result (λ len. len < 9223372036854775808) }
         ensures cause { OnErr result (HasRisen self.old.disk_faults self.new.disk_faults) }
         ensures disk_faults { self.old.disk_faults ≤ self.new.disk_faults }
@@ -609,6 +613,7 @@ impl Rig for MemRig {
     fn read(&mut self, file: Side, at: u64, buf: &mut [u8]) -> Result<usize, DiskFailed>
         ensures told { GoesOn rig_tells self.old self.new (IsStep (IsRead file at buf.new result)) }
         ensures tells { StillTells rig_tells self.old self.new }
+        ensures steady { IsSteady self.old → IsSteady self.new }
         ensures some { IfOk result (λ count. 0 < count) }
         ensures count { IfOk result (λ count. count ≤ length buf.old) }
         ensures cause { OnErr result (HasRisen self.old.disk_faults self.new.disk_faults) }
@@ -627,15 +632,17 @@ impl Rig for MemRig {
     }
 
     fn write(&mut self, file: Side, at: u64, bytes: &[u8]) -> Result<(), DiskFailed>
-        ensures told { GoesOn rig_tells self.old self.new (IsStep (OnFile file (IsWritten at bytes.now result))) }
+        ensures told { GoesOn rig_tells self.old self.new (IsStep (OnFile file (IsWritten (IsSteady self.old) at bytes.now result))) }
         ensures tells { StillTells rig_tells self.old self.new }
+        ensures steady { IsSteady self.old → IsSteady self.new }
         ensures fits { OnOk result (at + length bytes.now < 9223372036854775808) }
         ensures cause { OnErr result (HasRisen self.old.disk_faults self.new.disk_faults) }
         ensures disk_faults { self.old.disk_faults ≤ self.new.disk_faults }
         ensures net_faults { self.new.net_faults ≡ self.old.net_faults }
         ensures starved { RisesOnErr result self.old.starved self.new.starved }
 
-        // it fails where it is set to, where it would not fit, and else only for want of memory
+        // it fails where it is set to, where it would not fit, and else only for want of memory, and
+        // leaves what the form says that is set
         ensures telling { self.new.telling ≡ self.old.telling }
         ensures done { OnOk result (self.new ≡ with_memory_file file (wrote at (length bytes.now) bytes.now (memory_file file self.old)) (after_change self.old)) }
         ensures left { OnErr result (self.new ≡ record (after_change self.old) { a = self.new.a; b = self.new.b; disk_faults = self.new.disk_faults; starved = self.new.starved }) }
@@ -646,27 +653,30 @@ impl Rig for MemRig {
     }
 
     fn cut(&mut self, file: Side, len: u64) -> Result<(), DiskFailed>
-        ensures told { GoesOn rig_tells self.old self.new (IsStep (OnFile file (IsCut len result))) }
+        ensures told { GoesOn rig_tells self.old self.new (IsStep (OnFile file (IsCut (IsSteady self.old) len result))) }
         ensures tells { StillTells rig_tells self.old self.new }
+        ensures steady { IsSteady self.old → IsSteady self.new }
         ensures fits { OnOk result (len < 9223372036854775808) }
         ensures cause { OnErr result (HasRisen self.old.disk_faults self.new.disk_faults) }
         ensures disk_faults { self.old.disk_faults ≤ self.new.disk_faults }
         ensures net_faults { self.new.net_faults ≡ self.old.net_faults }
         ensures starved { RisesOnErr result self.old.starved self.new.starved }
 
-        // it fails where it is set to, where the file is shorter, and else only for want of memory
+        // it fails where it is set to, where the file is shorter, and else only for want of memory, and
+        // leaves what the form says that is set
         ensures telling { self.new.telling ≡ self.old.telling }
         ensures done { OnOk result (self.new ≡ with_memory_file file (was_cut len (memory_file file self.old)) (after_change self.old)) }
-        ensures left { OnErr result (self.new ≡ record (after_change self.old) { a = self.new.a; b = self.new.b; disk_faults = self.new.disk_faults; starved = self.new.starved }) }
-        ensures why { OnErr result (IsSome (change_fault self.old) ⊎ (length (memory_file file self.old).bytes < len) ⊎ HasRisen self.old.starved self.new.starved) }
+        ensures left { OnErr result (IsAfterFailedCut file len self.old self.new) }
+        ensures why { OnErr result (IsSome (change_fault self.old) ⊎ CannotCut len (memory_file file self.old) self.old.starved self.new.starved) }
         ensures set { IsSome (change_fault self.old) → IsErr result }
     {
         self.do_cut(file, len)
     }
 
     fn sync(&mut self, file: Side) -> Result<(), DiskFailed>
-        ensures told { GoesOn rig_tells self.old self.new (IsStep (OnFile file (IsSynced result))) }
+        ensures told { GoesOn rig_tells self.old self.new (IsStep (OnFile file (IsSynced (IsSteady self.old) result))) }
         ensures tells { StillTells rig_tells self.old self.new }
+        ensures steady { IsSteady self.old → IsSteady self.new }
         ensures cause { OnErr result (HasRisen self.old.disk_faults self.new.disk_faults) }
         ensures disk_faults { self.old.disk_faults ≤ self.new.disk_faults }
         ensures net_faults { self.new.net_faults ≡ self.old.net_faults }
@@ -684,6 +694,7 @@ impl Rig for MemRig {
 
     fn now(&mut self) -> u64
         ensures told { GoesOn rig_tells self.old self.new (IsStep (NotesReading result)) }
+        ensures steady { IsSteady self.old → IsSteady self.new }
         ensures disk_faults { self.new.disk_faults ≡ self.old.disk_faults }
         ensures net_faults { self.new.net_faults ≡ self.old.net_faults }
         ensures starved { self.new.starved ≡ self.old.starved }
@@ -698,6 +709,7 @@ impl Rig for MemRig {
     fn rest(&mut self, ms: u64)
         ensures told { GoesOn rig_tells self.old self.new (IsStep Stays) }
         ensures tells { StillTells rig_tells self.old self.new }
+        ensures steady { IsSteady self.old → IsSteady self.new }
         ensures disk_faults { self.new.disk_faults ≡ self.old.disk_faults }
         ensures net_faults { self.new.net_faults ≡ self.old.net_faults }
         ensures starved { self.new.starved ≡ self.old.starved }
@@ -719,7 +731,7 @@ fn skips(fault: Option<FailForm>) -> bool
 // How many of a write's bytes are written.
 fn part_of(fault: Option<FailForm>, len: usize) -> usize
     ensures within { result ≤ len }
-    ensures whole { fault ≡ None → result ≡ len }
+    ensures part { result ≡ part_of fault len }
 {
     if matches!(fault, Some(FailForm::Half)) {
         len / 2

@@ -30,11 +30,16 @@ pub trait Rig {
     /// How often a call has failed for want of memory of the rig's own.
     ghost starved: { Self → ℕ };
 
+    /// Whether its calls on the disk fail only for want of memory of its own, where they fit. A call of
+    /// such a rig that fails has done nothing.
+    ghost steady: { Self → Type 0 };
+
     /// Takes the two files of this directory, which must be there. A file that isn't there is made,
     /// empty.
     fn attach(&mut self, dir: &str) -> Result<(), DiskFailed>
         ensures told { GoesOn tells self.old self.new (IsStep (Asks (AskedEntry.Attach dir.now) (starved self.old) (starved self.new))) }
         ensures tells { StillTells tells self.old self.new }
+        ensures steady { steady self.old → steady self.new }
         ensures cause { OnErr result (HasRisen (disk_faults self.old) (disk_faults self.new)) }
         ensures disk_faults { disk_faults self.old ≤ disk_faults self.new }
         ensures net_faults { net_faults self.new ≡ net_faults self.old }
@@ -44,6 +49,7 @@ pub trait Rig {
     fn size(&mut self, file: Side) -> Result<u64, DiskFailed>
         ensures told { GoesOn tells self.old self.new (IsStep (IsSize file result)) }
         ensures tells { StillTells tells self.old self.new }
+        ensures steady { steady self.old → steady self.new }
         ensures fits { IfOk result (λ len. len < 9223372036854775808) }
         ensures cause { OnErr result (HasRisen (disk_faults self.old) (disk_faults self.new)) }
         ensures disk_faults { disk_faults self.old ≤ disk_faults self.new }
@@ -56,6 +62,7 @@ pub trait Rig {
         requires inside { WhereTold tells self.old (λ now. at < length (reads_of file now)) }
         ensures told { GoesOn tells self.old self.new (IsStep (IsRead file at buf.new result)) }
         ensures tells { StillTells tells self.old self.new }
+        ensures steady { steady self.old → steady self.new }
         ensures some { IfOk result (λ count. 0 < count) }
         ensures count { IfOk result (λ count. count ≤ length buf.old) }
         ensures cause { OnErr result (HasRisen (disk_faults self.old) (disk_faults self.new)) }
@@ -66,8 +73,9 @@ pub trait Rig {
     /// Writes the bytes from this offset on.
     fn write(&mut self, file: Side, at: u64, bytes: &[u8]) -> Result<(), DiskFailed>
         requires { WhereTold tells self.old (λ now. at ≤ length (reads_of file now)) }
-        ensures told { GoesOn tells self.old self.new (IsStep (OnFile file (IsWritten at bytes.now result))) }
+        ensures told { GoesOn tells self.old self.new (IsStep (OnFile file (IsWritten (steady self.old) at bytes.now result))) }
         ensures tells { StillTells tells self.old self.new }
+        ensures steady { steady self.old → steady self.new }
         ensures fits { OnOk result (at + length bytes.now < 9223372036854775808) }
         ensures cause { OnErr result (HasRisen (disk_faults self.old) (disk_faults self.new)) }
         ensures disk_faults { disk_faults self.old ≤ disk_faults self.new }
@@ -77,8 +85,9 @@ pub trait Rig {
     /// Cuts the file to so many bytes.
     fn cut(&mut self, file: Side, len: u64) -> Result<(), DiskFailed>
         requires { WhereTold tells self.old (λ now. len ≤ length (reads_of file now)) }
-        ensures told { GoesOn tells self.old self.new (IsStep (OnFile file (IsCut len result))) }
+        ensures told { GoesOn tells self.old self.new (IsStep (OnFile file (IsCut (steady self.old) len result))) }
         ensures tells { StillTells tells self.old self.new }
+        ensures steady { steady self.old → steady self.new }
         ensures fits { OnOk result (len < 9223372036854775808) }
         ensures cause { OnErr result (HasRisen (disk_faults self.old) (disk_faults self.new)) }
         ensures disk_faults { disk_faults self.old ≤ disk_faults self.new }
@@ -87,8 +96,9 @@ pub trait Rig {
 
     /// Brings all of the file to the disk: from then on a stop leaves what a read gives.
     fn sync(&mut self, file: Side) -> Result<(), DiskFailed>
-        ensures told { GoesOn tells self.old self.new (IsStep (OnFile file (IsSynced result))) }
+        ensures told { GoesOn tells self.old self.new (IsStep (OnFile file (IsSynced (steady self.old) result))) }
         ensures tells { StillTells tells self.old self.new }
+        ensures steady { steady self.old → steady self.new }
         ensures cause { OnErr result (HasRisen (disk_faults self.old) (disk_faults self.new)) }
         ensures disk_faults { disk_faults self.old ≤ disk_faults self.new }
         ensures net_faults { net_faults self.new ≡ net_faults self.old }
@@ -97,6 +107,7 @@ pub trait Rig {
     /// Reads the clock, in milliseconds since 1970. Readings may go back. Telling may end here.
     fn now(&mut self) -> u64
         ensures told { GoesOn tells self.old self.new (IsStep (NotesReading result)) }
+        ensures steady { steady self.old → steady self.new }
         ensures disk_faults { disk_faults self.new ≡ disk_faults self.old }
         ensures net_faults { net_faults self.new ≡ net_faults self.old }
         ensures starved { starved self.new ≡ starved self.old };
@@ -105,6 +116,7 @@ pub trait Rig {
     fn rest(&mut self, ms: u64)
         ensures told { GoesOn tells self.old self.new (IsStep Stays) }
         ensures tells { StillTells tells self.old self.new }
+        ensures steady { steady self.old → steady self.new }
         ensures disk_faults { disk_faults self.new ≡ disk_faults self.old }
         ensures net_faults { net_faults self.new ≡ net_faults self.old }
         ensures starved { starved self.new ≡ starved self.old };

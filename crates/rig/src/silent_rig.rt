@@ -1,5 +1,5 @@
 ghost use Rattle.std.specs.Prelude.{◌≡◌, false};
-ghost use Rattle.rig.specs.MemoryRig.{MemoryRig};
+ghost use Rattle.rig.specs.MemoryRig.{MemoryRig, IsSteady};
 ghost use Rattle.rig.specs.SilentRig.{tells_nothing, silent_one_now, silent_sound};
 
 use crate::{DiskFailed, MemRig, Rig, Side};
@@ -47,6 +47,8 @@ impl Rig for SilentRig {
     ghost net_faults = { λ rig. rig.net_faults };
 
     ghost starved = { λ rig. rig.starved };
+
+    ghost steady = { IsSteady };
 
     ghost one_now = { silent_one_now };
 

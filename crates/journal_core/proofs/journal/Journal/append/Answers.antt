@@ -10,8 +10,8 @@ returns-in_err-write-clause-told g c =
 
 pub returns-in_err-sync-clause-told : goal.returns-in_err-sync-clause-told
 returns-in_err-sync-clause-told g c =
-    told_sync_failed g.R.Rig.tells c.args.rig.now c.write.new.self c.sync.new.self c.args.self c.self.inside.end c.args.payload.now c.as_slice.result.now _ _ c.from_residual-in_err-sync.result
-    c.self.view_is (c.as_slice.ensures ∙ c.spell.ensures) c.from_residual-in_err-sync.ensures.0 c.requires.ready (g.met.R.Rig.sound c.write.new.self) c.in_ok-write.ensures.told c.in_err-sync.ensures.told
+    told_sync_failed g.R.Rig.tells c.args.rig.now c.write.new.self c.sync.new.self _ _ c.args.self c.self.inside.end c.args.payload.now c.as_slice.result.now _ _ c.from_residual-in_err-sync.result
+    c.self.view_is (c.as_slice.ensures ∙ c.spell.ensures) c.in_ok-write.ensures.steady c.requires.some c.requires.fits c.from_residual-in_err-sync.ensures.0 c.requires.ready (g.met.R.Rig.sound c.write.new.self) c.in_ok-write.ensures.told c.in_err-sync.ensures.told
 
 pub returns-clause-told : goal.returns-clause-told
 returns-clause-told g c =
