@@ -1,4 +1,9 @@
+mod AcceptedLemmas
+mod AcceptedRows
 mod FaultLemmas
+mod KeptLemmas
+mod LineLemmas
+mod LogLemmas
 mod PiecesLemmas
 mod ReplayLemmas
 mod RunLemmas

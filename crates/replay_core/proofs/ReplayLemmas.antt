@@ -8,6 +8,9 @@ use Rattle.replay_core.specs.declared.end.ReplayEnd.TheVariants.{Done, Script, R
 use mathlib.Core.Path.{fun_ext}
 use Rattle.rig.specs.Written.{Adds, AddsPrefix}
 use Rattle.rig.proofs.WrittenLemmas.{adds-adds, adds-adds-prefix, adds-nothing, adds-prefix-more, adds-prefix-nothing}
+use Rattle.rig.specs.MemoryRig.{MemoryRig}
+use Rattle.replay_core.specs.Accepted.{accepted_lines}
+use Rattle.replay_core.specs.Kept.{Logged, Logs}
 use Rattle.replay_core.specs.Pieces.{Lines, all_lines, last_line, lines_of}
 use Rattle.replay_core.proofs.PiecesLemmas.{IsOpen, go_on, lines-append, open-last}
 use Rattle.replay_core.specs.Replay.{Outcome, Goes, Stops, Session, after_text, and_then, on_line, on_lines, text_of}
@@ -139,7 +142,7 @@ feeds-start session pending old is = record {
 }
 
 -- one line, to its end
-pub feeds-line : (session next : Session) (line : List ℕ) (old new : Option (List ℕ)) → lines_of line ≡ record { ended = line ∷ []; last = [] } → Runs (on_line session line) old new (Ok next) → Feeds session line old new next []
+pub feeds-line : (session : Session) (next : Logged) (line : List ℕ) (old new : Option (List ℕ)) → lines_of line ≡ record { ended = line ∷ []; last = [] } → Runs (on_line session line) old new (Ok next) → Feeds session line old new next.session []
 feeds-line session next line old new is (text, goes, added) = record {
   text = text;
   outcome = ap (λ (lines : Lines). on_lines session lines.ended) is ∙ on_lines-one session line ∙ goes;
@@ -165,9 +168,10 @@ stops-more session bytes more old new end stops = λ rest. rw (append_assoc byte
 pub feeds-open : (session next : Session) (bytes pending : List ℕ) (old new : Option (List ℕ)) → Feeds session bytes old new next pending → IsOpen pending
 feeds-open session next bytes pending old new feeds = subst IsOpen (sym feeds.pending) (open-last bytes)
 
--- a front of new bytes was fed, and the rest is left
-pub record IsFed (session : Session) (pending chunk rest : List ℕ) (old new : Option (List ℕ)) (next : Session) (kept : List ℕ) : Type 0 where
+-- a front of new bytes was fed and its lines kept, and the rest is left
+pub record IsFed (session : Session) (pending chunk rest : List ℕ) (old new : Option (List ℕ)) (before : List (List ℕ)) (rig : MemoryRig) (next : Logged) (kept : List ℕ) : Type 0 where
   pub front : List ℕ
   pub parts : front ++ rest ≡ chunk
-  pub feeds : Feeds session (pending ++ front) old new next kept
-  pub room : (next.room + length pending) + length front ≡ session.room + length kept
+  pub feeds : Feeds session (pending ++ front) old new next.session kept
+  pub log : Logs before (accepted_lines session (lines_of (pending ++ front)).ended) next.end rig
+  pub room : (next.session.room + length pending) + length front ≡ session.room + length kept

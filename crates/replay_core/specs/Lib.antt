@@ -1,3 +1,5 @@
+pub mod Accepted
+pub mod Kept
 pub mod Line
 pub mod Pieces
 pub mod Replay

@@ -3,6 +3,7 @@ use Rattle.std.specs.Prelude.{ℕ, ◌≡◌, ◌≤◌, List, ◌++◌, Option,
 use Rattle.rig.specs.Faults.{HasRisen}
 use Rattle.rig.specs.Flow.{Flow}
 use Rattle.rig.specs.Written.{Adds, AddsPrefix}
+use Rattle.replay_core.specs.Kept.{Logged}
 use Rattle.replay_core.specs.Pieces.{all_lines, lines_of}
 use Rattle.replay_core.specs.Replay.{Outcome, Goes, Stops, Outside, Spent, Finished, Session, finish, on_lines, start, text_of, transcript}
 use Rattle.replay_core.specs.declared.end.ReplayEnd.{ReplayEnd}
@@ -31,8 +32,8 @@ Breaks outcome old new Done = ⊥
 Breaks outcome old new ReadFault = ⊥
 
 -- a run with this outcome went on, or was broken off
-abbrev pub Runs : Outcome → Option (List ℕ) → Option (List ℕ) → Result Session ReplayEnd → Type 0
-Runs outcome old new (Ok next) = (text : List ℕ) × (outcome ≡ Goes next text) × Adds old new text
+abbrev pub Runs : Outcome → Option (List ℕ) → Option (List ℕ) → Result Logged ReplayEnd → Type 0
+Runs outcome old new (Ok next) = (text : List ℕ) × (outcome ≡ Goes next.session text) × Adds old new text
 Runs outcome old new (Err end) = Breaks outcome old new end
 
 -- the ended lines of these bytes were run, and what follows the last of them is kept

@@ -1,5 +1,6 @@
+use journal_core::JournalFault;
 use kinds::Memory;
-use rig::{ReadFailed, WriteFailed};
+use rig::{DiskFailed, ReadFailed, WriteFailed};
 
 /// How the run of a script ended.
 #[derive(Clone, Copy, Debug, PartialEq, Eq)]
@@ -48,5 +49,28 @@ impl From<WriteFailed> for ReplayEnd {
 
     fn from(_error: WriteFailed) -> Self {
         ReplayEnd::WriteFault
+    }
+}
+
+// The disk of a script's run lies in memory, and a call on it fails only for want of that.
+impl From<DiskFailed> for ReplayEnd {
+    ghost use Rattle.std.specs.Prelude.{◌≡◌};
+    ghost use Rattle.replay_core.specs.declared.end.ReplayEnd.TheVariants as end;
+
+    ghost from_gives = { λ _ e. e ≡ end.Memory };
+
+    fn from(_error: DiskFailed) -> Self {
+        ReplayEnd::Memory
+    }
+}
+
+impl From<JournalFault> for ReplayEnd {
+    ghost use Rattle.std.specs.Prelude.{◌≡◌};
+    ghost use Rattle.replay_core.specs.declared.end.ReplayEnd.TheVariants as end;
+
+    ghost from_gives = { λ _ e. e ≡ end.Memory };
+
+    fn from(_error: JournalFault) -> Self {
+        ReplayEnd::Memory
     }
 }

@@ -1,14 +1,18 @@
-//! Scripts: reads the lines of a source, runs them through the machine, and prints what it says. Stands
-//! on `machine` and `rig`, and promises that what is printed and how the run ends is what the documented
-//! machine makes of the script, however the source cuts it.
+//! Scripts: reads the lines of a source, runs them through the machine, keeps the accepted ones in a
+//! journal, and prints what the machine says. Stands on `machine`, `journal_core` and `rig`, and promises
+//! that what is printed and how the run ends is what the documented machine makes of the script, however
+//! the source cuts it, and that a line is in the journal before its answer is printed.
 #![tactic(auto)]
 
 mod bytes;
 mod end;
+mod laws;
 mod line;
+mod log;
 mod printing;
 mod script;
 mod session;
 
 pub use end::ReplayEnd;
-pub use script::run_script;
+pub use laws::accepted_lines_go_on;
+pub use script::{run_lines, run_script};

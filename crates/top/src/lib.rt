@@ -13,4 +13,6 @@ pub use status::Status;
 #[cfg(test)]
 mod events_tests;
 #[cfg(test)]
+mod journal_tests;
+#[cfg(test)]
 mod tests;
