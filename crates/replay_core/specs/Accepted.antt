@@ -16,9 +16,8 @@ unless_refused text (Some cause) = []
 
 -- An accepted input is kept as the text of its line. What isn't an input is not kept.
 abbrev pub accepted_as : State → List ℕ → Option Line → List (List ℕ)
-accepted_as state text None = []
-accepted_as state text (Some line.Passed) = []
 accepted_as state text (Some (line.Input input)) = unless_refused text (refusal state input)
+accepted_as state text _ = []
 
 -- what a line adds, without the byte that ends it
 unfoldable pub accepted_line : Session → List ℕ → List (List ℕ)

@@ -2,8 +2,8 @@
 use Rattle.std.specs.Prelude.{ℕ, ◌≡◌, ◌⊎◌, true, List, [], ◌++◌, take, Option, Result, MatchResult}
 use Rattle.journal_core.specs.Appends.{IsReady}
 use Rattle.journal_core.specs.Records.{StandsFor, contents}
-use Rattle.rig.specs.Disk.{IsSoundDisk}
-use Rattle.rig.specs.MemoryFile.{settled_file}
+use Rattle.rig.specs.Disk.{IsSoundDisk, settled}
+use Rattle.rig.specs.MemoryFile.{file_in, settled_file}
 use Rattle.rig.specs.MemoryRig.{MemoryRig, IsSteady, disk_of, moment_of}
 use Rattle.rig.specs.Written.{AddsPrefix}
 use Rattle.replay_core.specs.Accepted.{accepted_lines}
@@ -30,6 +30,10 @@ pub record IsLogging (end : ℕ) (rig : MemoryRig) : Type 0 where
   pub steady : IsSteady rig
   pub sound : IsSoundDisk (disk_of rig)
   pub ready : IsReady end (moment_of rig)
+
+-- all that file A has is on the disk: a stop leaves just that
+abbrev pub IsOnDisk : MemoryRig → Type 0
+IsOnDisk rig = file_in rig.a ≡ settled rig.a.bytes
 
 -- what file A stands for
 abbrev pub payloads_in : MemoryRig → List (List ℕ)

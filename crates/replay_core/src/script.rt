@@ -2,7 +2,7 @@ ghost use Rattle.std.specs.Prelude.{◌≡◌, ◌<◌, ◌≤◌, ◌-◌, ◌+
 ghost use Rattle.rig.specs.Faults.{HasRisen};
 ghost use Rattle.rig.specs.Flow.{Flow, GivesWhereTold};
 ghost use Rattle.replay_core.specs.Accepted.{accepted_lines};
-ghost use Rattle.replay_core.specs.Kept.{IsBlank, IsLogging, Keeps, KeepsTo, KeepsWithin, Logs, StarvesInMemory, payloads_in};
+ghost use Rattle.replay_core.specs.Kept.{IsBlank, IsLogging, IsOnDisk, Keeps, KeepsTo, KeepsWithin, Logs, StarvesInMemory, payloads_in};
 ghost use Rattle.replay_core.specs.Pieces.{all_lines, last_line, lines_of};
 ghost use Rattle.replay_core.specs.Replay.{on_lines, start};
 ghost use Rattle.replay_core.specs.Run.{CountsFault, CountsReadFault, Feeds, Finishes, Replays, ReplaysTo, StopsWithin};
@@ -36,6 +36,7 @@ fn take_front<O: Sink>(
     ensures log { IfOk result (λ next. Logs (payloads_in rig.old) (accepted_lines session.session (lines_of (pending.old ++ front.now)).ended) next.end rig.new) }
     ensures kept { IfErr result (λ end. KeepsWithin session.session (pending.old ++ front.now) (payloads_in rig.old) (O.written sink.old) (O.written sink.new) rig.new.a.bytes end) }
     ensures room { IfOk result (λ next. next.session.room + length pending.old + length front.now ≡ session.session.room + length pending.new) }
+    ensures synced { IfErr result (λ end. IsOnDisk rig.new ⊎ (end ≡ ReplayEnd.Memory)) }
     ensures starved { StarvesInMemory rig.old.starved rig.new.starved result }
     ensures faults { CountsFault (O.faults sink.old) (O.faults sink.new) result }
 {
@@ -61,6 +62,7 @@ fn feed<O: Sink>(
     ensures log { IfOk result (λ next. Logs (payloads_in rig.old) (accepted_lines session.session (lines_of (pending.old ++ chunk.now)).ended) next.end rig.new) }
     ensures kept { IfErr result (λ end. KeepsWithin session.session (pending.old ++ chunk.now) (payloads_in rig.old) (O.written sink.old) (O.written sink.new) rig.new.a.bytes end) }
     ensures room { IfOk result (λ next. next.session.room + length pending.old + length chunk.now ≡ session.session.room + length pending.new) }
+    ensures synced { IfErr result (λ end. IsOnDisk rig.new ⊎ (end ≡ ReplayEnd.Memory)) }
     ensures starved { StarvesInMemory rig.old.starved rig.new.starved result }
     ensures faults { CountsFault (O.faults sink.old) (O.faults sink.new) result }
 {
@@ -84,6 +86,7 @@ fn finish<O: Sink>(
     requires { IsLogging session.end rig.old }
     ensures run { Finishes (on_lines session.session (last_line pending.now)) (O.written sink.old) (O.written sink.new) result }
     ensures kept { KeepsTo session.session (last_line pending.now) (payloads_in rig.old) (O.written sink.old) (O.written sink.new) rig.new.a.bytes result }
+    ensures synced { MatchResult result (λ _. IsOnDisk rig.new) (λ end. IsOnDisk rig.new ⊎ (end ≡ ReplayEnd.Memory)) }
     ensures starved { StarvesInMemory rig.old.starved rig.new.starved result }
     ensures faults { CountsFault (O.faults sink.old) (O.faults sink.new) result }
 {
@@ -121,6 +124,7 @@ pub fn run_lines<I: Source, O: Sink>(
     requires blank { IsBlank rig.old }
     ensures replays { (flow : Flow) → I.flow input.old ≡ Some flow → Replays flow (I.flow input.new) (O.written out.old) (O.written out.new) result }
     ensures kept { (flow : Flow) → I.flow input.old ≡ Some flow → Keeps start (all_lines (lines_of flow.left)) [] (O.written out.old) (O.written out.new) rig.new.a.bytes result }
+    ensures synced { IsOnDisk rig.new ⊎ (result ≡ ReplayEnd.Memory) }
     ensures starved { (rig.new.starved ≡ rig.old.starved) ⊎ (result ≡ ReplayEnd.Memory) }
     ensures read_fault { result ≡ ReplayEnd.ReadFault → HasRisen (I.faults input.old) (I.faults input.new) }
     ensures write_fault { result ≡ ReplayEnd.WriteFault → HasRisen (O.faults out.old) (O.faults out.new) }
@@ -143,6 +147,7 @@ fn read_and_run<I: Source, O: Sink>(
     requires { IsBlank rig.old }
     ensures replays { (flow : Flow) → I.flow input.old ≡ Some flow → ReplaysTo flow (I.flow input.new) (O.written out.old) (O.written out.new) result }
     ensures kept { (flow : Flow) → I.flow input.old ≡ Some flow → KeepsTo start (all_lines (lines_of flow.left)) [] (O.written out.old) (O.written out.new) rig.new.a.bytes result }
+    ensures synced { MatchResult result (λ _. IsOnDisk rig.new) (λ end. IsOnDisk rig.new ⊎ (end ≡ ReplayEnd.Memory)) }
     ensures starved { StarvesInMemory rig.old.starved rig.new.starved result }
     ensures reads { CountsReadFault (I.faults input.old) (I.faults input.new) result }
     ensures writes { CountsFault (O.faults out.old) (O.faults out.new) result }

@@ -1,8 +1,8 @@
-ghost use Rattle.std.specs.Prelude.{◌≡◌, ◌<◌, ◌≤◌, ◌-◌, ◌+◌, ◌∷◌, [], IfErr, IfOk, length, None};
+ghost use Rattle.std.specs.Prelude.{◌≡◌, ◌<◌, ◌≤◌, ◌-◌, ◌+◌, ◌∷◌, ◌⊎◌, [], IfErr, IfOk, length, None};
 ghost use Rattle.machine_model.specs.Machine.{Accepts, refusal, step};
 ghost use Rattle.journal_core.specs.Records.{StandsFor};
 ghost use Rattle.replay_core.specs.Accepted.{accepted_line, unless_refused};
-ghost use Rattle.replay_core.specs.Kept.{IsBlank, IsLogging, KeepsLine, Logs, StarvesInMemory, payloads_in};
+ghost use Rattle.replay_core.specs.Kept.{IsBlank, IsLogging, IsOnDisk, KeepsLine, Logs, StarvesInMemory, payloads_in};
 ghost use Rattle.replay_core.specs.Replay.{Goes, end_line, next_line, on_input, on_line, printed, refused, start, taken};
 ghost use Rattle.replay_core.specs.Run.{CountsFault, Runs, Prints};
 
@@ -91,6 +91,7 @@ impl Session {
         ensures log { IfOk result (λ next. Logs (payloads_in rig.old) (accepted_line self.session line.now) next.end rig.new) }
         ensures kept { IfErr result (λ end. KeepsLine (on_line self.session line.now) (payloads_in rig.old) (accepted_line self.session line.now) (O.written sink.old) (O.written sink.new) rig.new.a.bytes end) }
         ensures room { IfOk result (λ next. next.session.room + length line.now ≡ self.session.room) }
+        ensures synced { IfErr result (λ end. IsOnDisk rig.new ⊎ (end ≡ ReplayEnd.Memory)) }
         ensures starved { StarvesInMemory rig.old.starved rig.new.starved result }
         ensures faults { CountsFault (O.faults sink.old) (O.faults sink.new) result }
     {
@@ -137,6 +138,7 @@ impl Session {
         ensures log { IfOk result (λ next. Logs (payloads_in rig.old) (unless_refused text.now (refusal self.session.state input)) next.end rig.new) }
         ensures kept { IfErr result (λ end. KeepsLine (on_input self.session size input) (payloads_in rig.old) (unless_refused text.now (refusal self.session.state input)) (O.written sink.old) (O.written sink.new) rig.new.a.bytes end) }
         ensures room { IfOk result (λ next. next.session.room + size ≡ self.session.room) }
+        ensures synced { IfErr result (λ end. IsOnDisk rig.new ⊎ (end ≡ ReplayEnd.Memory)) }
         ensures starved { StarvesInMemory rig.old.starved rig.new.starved result }
         ensures faults { CountsFault (O.faults sink.old) (O.faults sink.new) result }
     {
@@ -192,6 +194,7 @@ impl Session {
         ensures log { IfOk result (λ next. Logs (payloads_in rig.old) (text.now ∷ []) next.end rig.new) }
         ensures kept { IfErr result (λ end. KeepsLine (taken self.session size (step self.session.state input)) (payloads_in rig.old) (text.now ∷ []) (O.written sink.old) (O.written sink.new) rig.new.a.bytes end) }
         ensures room { IfOk result (λ next. next.session.room + size ≡ self.session.room) }
+        ensures synced { IfErr result (λ end. IsOnDisk rig.new ⊎ (end ≡ ReplayEnd.Memory)) }
         ensures starved { StarvesInMemory rig.old.starved rig.new.starved result }
         ensures faults { CountsFault (O.faults sink.old) (O.faults sink.new) result }
     {

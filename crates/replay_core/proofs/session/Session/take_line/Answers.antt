@@ -1,4 +1,4 @@
-use Rattle.std.proofs.Common.{◌≡◌, ◌≤◌, List, ℕ, Some, length, subst, sym}
+use Rattle.std.proofs.Common.{◌≡◌, ◌<◌, ◌≤◌, List, ℕ, Some, arith, length, subst, sym}
 use Rattle.std.proofs.lemmas.Result.{err_from_is_err_and}
 use Rattle.replay_core.specs.Line.{read_line}
 use Rattle.replay_core.specs.Replay.{on_line}
@@ -16,4 +16,6 @@ pub take_input-requires-clause-text : goal.take_input-requires-clause-text
 take_input-requires-clause-text g c =
     let text = c.text_of_line-text.result.now in
     let is : read_line text ≡ Some (Input c.in-Some-Input.input) = cc (c.in_ok-read_line.ensures, c.in-Some-Input.is) in
-    (input-some text c.in-Some-Input.input is, subst (λ (t : List ℕ). length t ≤ length c.args.line.now) (sym c.text_of_line-text.ensures) (text-within c.args.line.now))
+    let some : 0 < length text = input-some text c.in-Some-Input.input is in
+    let within : length text ≤ length c.args.line.now = subst (λ (t : List ℕ). length t ≤ length c.args.line.now) (sym c.text_of_line-text.ensures) (text-within c.args.line.now) in
+    (omega arith, omega arith)
