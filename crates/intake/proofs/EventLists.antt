@@ -18,10 +18,6 @@ pub record IsReading (root : Json) (js : List Json) (left : List ℕ) (events : 
   pub there : AllByRecursion (IsNodeOf root) left
   pub read : events_from 0 js ≡ followed events (events_from (length events) (map (value_at root) left))
 
-followed-none : (r : Result (List EventIn) IntakeFault) → followed [] r ≡ r
-followed-none (Ok more) = refl
-followed-none (Err fault) = refl
-
 followed-more : (events : List EventIn) (event : EventIn) (r : Result (List EventIn) IntakeFault) → followed events (with_events (Ok event) r) ≡ followed (events ++ event ∷ []) r
 followed-more events event (Ok more) = ap (λ (all : List EventIn). Ok all) (sym (append_assoc events (event ∷ []) more))
 followed-more events event (Err fault) = refl
@@ -33,9 +29,6 @@ from-next k j js = refl
 from-end : (k : ℕ) → events_from k [] ≡ Ok []
 unfolding events_from
 from-end k = refl
-
-pub reading-start : (root : Json) (js : List Json) (left : List ℕ) → AllByRecursion (IsNodeOf root) left → map (value_at root) left ≡ js → IsReading root js left []
-reading-start root js left there are = record { there = there; read = sym (ap (λ (all : List Json). followed [] (events_from 0 all)) are ∙ followed-none (events_from 0 js)) }
 
 here : (root : Json) (js : List Json) (node : ℕ) (left : List ℕ) (events : List EventIn) → IsReading root js (node ∷ left) events
     → events_from 0 js ≡ followed events (with_events (event_of (length events) (value_at root node)) (events_from (length events + 1) (map (value_at root) left)))
