@@ -143,9 +143,6 @@ spelled_length : (payload : List ℕ) → length payload ≤ 8388608 → first_l
 unfolding first_length
 spelled_length payload h = from_be_bytes-to_be_bytes_4 (length payload) (omega arith)
 
-pub length-spelled : (payload : List ℕ) → length (spelled payload) ≡ 4 + length payload
-length-spelled payload = omega arith
-
 pub contents-spelled : (payload : List ℕ) → 0 < length payload → length payload ≤ greatest → contents (spelled payload) ≡ record { payloads = payload ∷ []; rest = [] }
 contents-spelled payload some fits =
     let size = spelled_length payload fits in

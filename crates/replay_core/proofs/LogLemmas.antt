@@ -27,9 +27,6 @@ empty-sound = record {
   fits = lit< tt;
 }
 
-pub blank-reads : (rig : MemoryRig) → IsBlank rig → WhereTold rig_tells rig (λ now. reads_of A now ≡ [])
-blank-reads rig blank = λ history told. ap (reads_of A) told.1 ∙ ap (λ (f : MemoryFile). f.bytes) blank.a
-
 blank-sound : (rig : MemoryRig) → IsBlank rig → IsSoundDisk (disk_of rig)
 blank-sound rig blank = record {
   a = subst (λ (f : MemoryFile). IsSound (file_in f)) (sym blank.a) empty-sound;
@@ -60,9 +57,6 @@ opening-failed {T = T} old new error blank still goes =
     ap contents same ∙ blank-stands old blank
 
 -- ## Appending
-
-pub logging-ready : (end : ℕ) (rig : MemoryRig) → IsLogging end rig → WhereTold rig_tells rig (IsReady end)
-logging-ready end rig log = λ history told. subst (IsReady end) (sym told.1) log.ready
 
 pub appended-logs : {E : Type 0} (old new : MemoryRig) (end after : ℕ) (payload : List ℕ) → IsLogging end old → (IsSteady old → IsSteady new) → StillTells rig_tells old new → GoesOn rig_tells old new (IsAppended {E = E} (IsSteady old) payload (Ok after)) → WhereTold rig_tells new (IsReady after) → Logs (payloads_in old) (payload ∷ []) after new
 appended-logs {E = E} old new end after payload log stays still goes ready =

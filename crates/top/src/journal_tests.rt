@@ -34,7 +34,7 @@ fn check(
 
 #[test]
 fn accepted_lines_are_kept(rt: HostRuntime) -> Result<(), Fail> {
-    let table: [(&[u8], ReplayEnd, &[u8]); 8] = [
+    let table: [(&[u8], ReplayEnd, &[u8]); 10] = [
         (THREE_LINES, ReplayEnd::Done, FILES[3]),
         (
             b"# a comment\n5 EVENT x i1\n\n5 EVENT x i1\n",
@@ -48,6 +48,12 @@ fn accepted_lines_are_kept(rt: HostRuntime) -> Result<(), Fail> {
             ReplayEnd::Done,
             b"\x00\x00\x00\x0d007 EVENT x -",
         ),
+        (
+            b"1 EVENTS {\"name\":\"x\"}\n",
+            ReplayEnd::Done,
+            b"\x00\x00\x00\x151 EVENTS {\"name\":\"x\"}",
+        ),
+        (b"5 EVENTS []\n0 EVENTS nul\n", ReplayEnd::Done, b""),
         (b"bogus\n", ReplayEnd::Script { line: 1 }, b""),
         (
             b"0 EVENT x i1\n0 EVENT x i1 \n0 EVENT x i2\n",
