@@ -2,7 +2,7 @@
 use Rattle.std.proofs.Common.{◌≡◌, ◌⊎◌, inl, inr, ℕ, ◌+◌, List, [], ◌∷◌, ◌++◌, length, length-append, map, Result, Ok, Err, refl, sym, ap, ◌∙◌, append_assoc, append-nil}
 use Rattle.std.specs.List.{AllByRecursion}
 use Rattle.json_text.specs.Grammar.{Json}
-use Rattle.json_text.specs.Nodes.{IsNodeOf, value_at}
+use Rattle.json_text.specs.Nodes.{Document, IsNodeOf, value_at}
 use Rattle.kinds.specs.declared.event.EventIn.{EventIn}
 use Rattle.intake.specs.Events.{event_of, events_from, with_events}
 use Rattle.intake.specs.declared.fault.IntakeFault.{IntakeFault}
@@ -14,7 +14,7 @@ followed events (Ok more) = Ok (events ++ more)
 followed events (Err fault) = Err fault
 
 -- these events were read of some values, and the nodes that are left are those of the others
-pub record IsReading (root : Json) (js : List Json) (left : List ℕ) (events : List EventIn) : Type 0 where
+pub record IsReading (root : Document) (js : List Json) (left : List ℕ) (events : List EventIn) : Type 0 where
   pub there : AllByRecursion (IsNodeOf root) left
   pub read : events_from 0 js ≡ followed events (events_from (length events) (map (value_at root) left))
 
@@ -30,11 +30,11 @@ from-end : (k : ℕ) → events_from k [] ≡ Ok []
 unfolding events_from
 from-end k = refl
 
-here : (root : Json) (js : List Json) (node : ℕ) (left : List ℕ) (events : List EventIn) → IsReading root js (node ∷ left) events
+here : (root : Document) (js : List Json) (node : ℕ) (left : List ℕ) (events : List EventIn) → IsReading root js (node ∷ left) events
     → events_from 0 js ≡ followed events (with_events (event_of (length events) (value_at root node)) (events_from (length events + 1) (map (value_at root) left)))
 here root js node left events reading = reading.read ∙ ap (λ r. followed events r) (from-next (length events) (value_at root node) (map (value_at root) left))
 
-pub reading-more : (root : Json) (js : List Json) (node : ℕ) (left : List ℕ) (events : List EventIn) (event : EventIn) → IsReading root js (node ∷ left) events → event_of (length events) (value_at root node) ≡ Ok event → IsReading root js left (events ++ event ∷ [])
+pub reading-more : (root : Document) (js : List Json) (node : ℕ) (left : List ℕ) (events : List EventIn) (event : EventIn) → IsReading root js (node ∷ left) events → event_of (length events) (value_at root node) ≡ Ok event → IsReading root js left (events ++ event ∷ [])
 reading-more root js node left events event reading is = record {
   there = reading.there.1;
   read = here root js node left events reading
@@ -43,12 +43,12 @@ reading-more root js node left events event reading is = record {
       ∙ ap (λ (n : ℕ). followed (events ++ event ∷ []) (events_from n (map (value_at root) left))) (sym (length-append events (event ∷ [])));
 }
 
-pub reading-fault : (root : Json) (js : List Json) (node : ℕ) (left : List ℕ) (events : List EventIn) (fault : IntakeFault) → IsReading root js (node ∷ left) events → (fault ≡ Memory) ⊎ (event_of (length events) (value_at root node) ≡ Err fault) → (fault ≡ Memory) ⊎ (events_from 0 js ≡ Err fault)
+pub reading-fault : (root : Document) (js : List Json) (node : ℕ) (left : List ℕ) (events : List EventIn) (fault : IntakeFault) → IsReading root js (node ∷ left) events → (fault ≡ Memory) ⊎ (event_of (length events) (value_at root node) ≡ Err fault) → (fault ≡ Memory) ⊎ (events_from 0 js ≡ Err fault)
 reading-fault root js node left events fault reading (inl memory) = inl memory
 reading-fault root js node left events fault reading (inr is) =
     inr (here root js node left events reading ∙ ap (λ r. followed events (with_events r (events_from (length events + 1) (map (value_at root) left)))) is)
 
-pub reading-end : (root : Json) (js : List Json) (events : List EventIn) → IsReading root js [] events → events_from 0 js ≡ Ok events
+pub reading-end : (root : Document) (js : List Json) (events : List EventIn) → IsReading root js [] events → events_from 0 js ≡ Ok events
 reading-end root js events reading =
     reading.read
     ∙ ap (λ r. followed events r) (from-end (length events))

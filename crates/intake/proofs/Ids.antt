@@ -12,12 +12,12 @@ use Rattle.std.proofs.lemmas.Cmp.{nat_cmp_total}
 use Rattle.std.proofs.lemmas.Map.Keys.{sorted_head, sorted_tail}
 use Rattle.kinds.specs.declared.seen.SeenEntry.{SeenEntry}
 use Rattle.kinds.specs.Seen.{has_id, without_id, insert_seen, note_seen, is_remembered, remembered, find_seen, weight_of}
-use Rattle.kinds.proofs.Texts.{Puts, texts, key_text, bytes_flip, bytes_self, bytes_same}
+use Rattle.lists.proofs.Texts.{Puts, texts, key_text, bytes_flip, bytes_self, bytes_same}
 use Rattle.intake.specs.declared.seen.Place.{Place}
 use Rattle.intake.specs.Number.{has_number, without_number}
 use Rattle.intake.specs.Order.{IsInOrder}
 use Rattle.intake.specs.Places.{place_of, AreApart, IsSeen}
-use Rattle.kinds.proofs.Keyed.{cond_none, filter_none, find_without, find_filter, find-insert, without-insert, filter-insert}
+use Rattle.lists.proofs.Keyed.{cond_none, filter_none, find_without, find_filter, find-insert, without-insert, filter-insert}
 use Rattle.intake.proofs.Numbers.{seen_inserts, number_of, found_above, less_apart}
 
 -- ---- entries with ids apart

@@ -17,7 +17,7 @@ use Rattle.kinds.specs.declared.seen.SeenEntry.{SeenEntry}
 use Rattle.kinds.specs.Seen.{insert_seen, is_remembered, remembered, window}
 use Rattle.intake.specs.Number.{has_number, without_number}
 use Rattle.intake.specs.Order.{IsInOrder, pair_cmp, has_moment, under_numbers, IsTimeline}
-use Rattle.kinds.proofs.Keyed.{Inserts, filter_none, find_without, find_filter, values_of-keyed, keys_of-keyed, lookup-keyed, keyed-insert, keyed-remove, find-insert}
+use Rattle.lists.proofs.Keyed.{Inserts, filter_none, find_without, find_filter, values_of-keyed, keys_of-keyed, lookup-keyed, keyed-insert, keyed-remove, find-insert}
 
 abbrev pub number_of : SeenEntry → ℕ
 number_of e = e.number

@@ -8,7 +8,8 @@ ghost use Rattle.intake.specs.declared.fault.IntakeFault.TheVariants as fault;
 use crate::IntakeFault;
 use crate::members::{content_in, event_with, text_in};
 use json_text::{Kind, Node, Tree};
-use kinds::{EventIn, Items};
+use kinds::EventIn;
+use lists::Items;
 use std::alloc::Global;
 
 /// The greatest number of events in a request.
@@ -22,14 +23,15 @@ const MOST_BYTES: usize = 262_144;
 /// are found event by event.
 #[tactic(auto, unfolding(crate::specs::Events::events_in_body))]
 pub fn read_events(alloc: Global, body: &[u8]) -> Result<Items<EventIn>, IntakeFault>
-    ensures { MatchResult result (λ events. events_in_body body.now ≡ Ok events) (λ e. (e ≡ fault.Memory) ⊎ (events_in_body body.now ≡ Err e)) }
+    ensures { MatchResult result (λ events. events_in_body body.now ≡ Ok events)
+        (λ e. (e ≡ fault.Memory) ⊎ (events_in_body body.now ≡ Err e)) }
 {
     let tree = Tree::read(alloc, body)?;
     events_of(alloc, &tree)
 }
 
 fn events_of(alloc: Global, tree: &Tree<'_>) -> Result<Items<EventIn>, IntakeFault>
-    ensures { Gives (events_of tree.now) result }
+    ensures { Gives (events_of tree.now.value) result }
 {
     let root = tree.root();
     if tree.kind(root) == Kind::List {

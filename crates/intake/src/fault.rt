@@ -2,8 +2,10 @@ ghost use Rattle.std.specs.Prelude.{◌≡◌, Some, IfOk};
 ghost use Rattle.intake.specs.Events.{fault_answer};
 
 use json_text::JsonFault;
-use kinds::{Memory, Out, error_answer};
+use kinds::{Out, error_answer};
+use lists::Memory;
 use std::alloc::Global;
+use std::fmt;
 
 /// Why the body of a request of events is refused.
 #[derive(Clone, Copy, Debug, PartialEq, Eq)]
@@ -66,6 +68,22 @@ impl IntakeFault {
                 error_answer(alloc, 400, b"event too large", Some(index))
             }
             IntakeFault::Memory => Err(Memory),
+        }
+    }
+}
+
+impl fmt::Display for IntakeFault {
+    fn fmt<W: fmt::Write>(&self, f: &mut fmt::Formatter<W>) -> fmt::Result {
+        match self {
+            IntakeFault::NotJson { at } => write!(f, "not JSON at byte {at}"),
+            IntakeFault::TooMany { count } => write!(f, "too many events: {count}"),
+            IntakeFault::NoName { index } => write!(f, "no name in event {index}"),
+            IntakeFault::DataNotObject { index } => write!(
+                f,
+                "data not an object in event {index}"
+            ),
+            IntakeFault::TooLarge { index } => write!(f, "event {index} too large"),
+            IntakeFault::Memory => f.write_str("out of memory"),
         }
     }
 }

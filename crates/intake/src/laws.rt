@@ -6,5 +6,6 @@ ghost use Rattle.intake.specs.Plain.{HasNoEscape};
 
 /// A name or an id that is spelled without escapes goes on as it is spelled.
 pub fn plain_texts_stay()
-    ensures { (spelling : List ℕ) → IsString spelling → HasNoEscape spelling → quoted (unescaped spelling) ≡ spelling }
+    ensures { (spelling : List ℕ) → IsString spelling → HasNoEscape spelling
+        → quoted (unescaped spelling) ≡ spelling }
 {}

@@ -1,11 +1,11 @@
-ghost use Rattle.std.specs.Prelude.{◌≡◌, Some, IfOk, IfErr, codes, option_map};
+ghost use Rattle.std.specs.Prelude.{◌≡◌, Some, IfOk, codes, option_map};
 ghost use Rattle.json_text.specs.Nodes.{IsNodeOf, value_at};
 ghost use Rattle.json_text.specs.Text.{member_of};
-ghost use Rattle.json_text.specs.declared.fault.JsonFault.TheVariants as json;
 ghost use Rattle.intake.specs.Events.{content_in, event_with, not_empty, number_in, slice_in, text_in};
 
-use json_text::{JsonFault, Kind, Node, Tree};
-use kinds::{Bytes, EventIn, Memory};
+use json_text::{Kind, Node, Tree};
+use kinds::EventIn;
+use lists::{Bytes, Memory};
 use std::alloc::Global;
 
 /// The event with this name and data at a node, which has its other members.
@@ -15,10 +15,9 @@ pub(crate) fn event_with(
     node: Node,
     name: Bytes,
     content: &[u8],
-) -> Result<EventIn, JsonFault>
+) -> Result<EventIn, Memory>
     requires { IsNodeOf tree.now node }
-    ensures value { IfOk result (λ event. event ≡ event_with (value_at tree.now node) name content.now) }
-    ensures err { IfErr result (λ e. e ≡ json.Memory) }
+    ensures { IfOk result (λ event. event ≡ event_with (value_at tree.now node) name content.now) }
 {
     let id = text_in(tree, node, b"id")?;
     let content = Bytes::from_slice(alloc, content)?;
@@ -36,10 +35,9 @@ pub(crate) fn event_with(
 }
 
 /// The member of this name, unescaped, where it is a text and isn't empty.
-pub(crate) fn text_in(tree: &Tree<'_>, node: Node, name: &[u8]) -> Result<Option<Bytes>, JsonFault>
+pub(crate) fn text_in(tree: &Tree<'_>, node: Node, name: &[u8]) -> Result<Option<Bytes>, Memory>
     requires { IsNodeOf tree.now node }
-    ensures value { IfOk result (λ text. text ≡ text_in (member_of (value_at tree.now node) name.now)) }
-    ensures err { IfErr result (λ e. e ≡ json.Memory) }
+    ensures { IfOk result (λ text. text ≡ text_in (member_of (value_at tree.now node) name.now)) }
 {
     match tree.member(node, name) {
         Some(member) if tree.kind(member) == Kind::Text => Ok(not_empty(tree.text_of(member)?)),

@@ -5,7 +5,8 @@ ghost use Rattle.intake.specs.Number.{has_number};
 
 use crate::timeline::{Entries, Timeline};
 use crate::window::is_inside;
-use kinds::{Bytes, Memory, SeenEntry};
+use kinds::SeenEntry;
+use lists::{Bytes, Memory};
 use std::alloc::Global;
 use std::collections::BTreeMap;
 use std::marker::Model;
@@ -102,7 +103,8 @@ impl Seen {
 
     // Drops one id whose day is over, and says whether there was one.
     fn forget_one(&mut self, moment: u64) -> bool
-        ensures dropped { OnTrue result ((remembered moment self.new ≡ remembered moment self.old) × (length self.new < length self.old)) }
+        ensures dropped { OnTrue result ((remembered moment self.new ≡ remembered moment self.old)
+            × (length self.new < length self.old)) }
         ensures left { OnFalse result ((self.new ≡ self.old) × (remembered moment self.old ≡ self.old)) }
     {
         match self.timeline.take_outside(moment) {

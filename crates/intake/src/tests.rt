@@ -1,5 +1,6 @@
 use crate::{IntakeFault, Seen, event_text, read_events};
-use kinds::{Bytes, EventIn, Memory, Out};
+use kinds::{EventIn, Out};
+use lists::{Bytes, Memory};
 use std::alloc::Global;
 use std::test::Fail;
 

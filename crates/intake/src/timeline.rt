@@ -4,7 +4,8 @@ ghost use Rattle.intake.specs.Number.{has_number, without_number};
 ghost use Rattle.intake.specs.Order.{IsInOrder};
 
 use crate::window::is_inside;
-use kinds::{Memory, SeenEntry};
+use kinds::SeenEntry;
+use lists::Memory;
 use std::alloc::Global;
 use std::collections::{BTreeMap, BTreeSet, btree_map};
 use std::marker::Model;
@@ -79,8 +80,10 @@ impl Timeline {
 
     /// Takes out an entry that a moment is outside the window of, if there is one.
     pub(crate) fn take_outside(&mut self, moment: u64) -> Option<SeenEntry>
-        ensures taken { MatchOption result (remembered moment self.old ≡ self.old) (λ e. (find (has_number e.number) self.old ≡ Some e) × (is_remembered moment e ≡ false)) }
-        ensures left { MatchOption result (self.new ≡ self.old) (λ e. self.new ≡ without_number e.number self.old) }
+        ensures taken { MatchOption result (remembered moment self.old ≡ self.old)
+            (λ e. (find (has_number e.number) self.old ≡ Some e) × (is_remembered moment e ≡ false)) }
+        ensures left { MatchOption result (self.new ≡ self.old)
+            (λ e. self.new ≡ without_number e.number self.old) }
         ensures ordered { IsInOrder self.old }
     {
         let (accepted, number) = *self.moments.first()?;

@@ -2,7 +2,8 @@ ghost use Rattle.std.specs.Prelude.{◌≡◌, ◌++◌, IfOk, OnOk, codes};
 ghost use Rattle.intake.specs.Events.{event_text, further_member, id_text, ts_text};
 
 use json_text::put_text;
-use kinds::{Bytes, EventIn, Memory};
+use kinds::EventIn;
+use lists::{Bytes, Memory};
 use std::alloc::Global;
 
 /// The text that an accepted event goes on as, with its number and its moment in milliseconds since 1970:

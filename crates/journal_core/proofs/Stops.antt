@@ -1,4 +1,4 @@
--- What a stop leaves at each step of an append and of an opening, and what stands after them.
+-- What a crash leaves at each step of an append and of an opening, and what stands after them.
 use Rattle.std.proofs.Common.{◌≡◌, ℕ, false, true, ◌+◌, ◌<◌, ◌≤◌, List, [], ◌∷◌, ◌++◌, length, take, drop, Result, Ok, Err, inl, inr, sym, ap, ap₂, ◌∙◌, subst, arith, append-nil}
 use Rattle.std.proofs.lemmas.List.{ext_get_or, length-take, length-append, get_or-take, take_all, drop_all, take-append-drop}
 use Rattle.rig.specs.Disk.{File, IsImage, IsSoundDisk, settled, overwritten, write_begun, IsWritten, IsSynced, file_of, with_file}
@@ -13,7 +13,7 @@ use Rattle.journal_core.proofs.Reading.{contents-append, contents-spelled, no_by
 
 -- ---- appending
 
--- a stop while the record is written behind whole records that are on the disk
+-- a crash while the record is written behind whole records that are on the disk
 torn_image : (payload bytes image : List ℕ) → (contents bytes).rest ≡ [] → IsImage (write_begun (length bytes) (length (spelled payload)) (settled bytes)) image → IsTorn payload bytes image
 torn_image payload bytes image whole is =
     let size : length (take (length bytes) image) ≡ length bytes = simp length-take (omega (arith, is.no_shorter)) in

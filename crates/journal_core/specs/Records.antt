@@ -17,7 +17,9 @@ first_length bytes = from_be_bytes w32 (take 4 bytes)
 
 -- a whole record stands at the front
 abbrev pub begins_whole : List ℕ → Bool
-begins_whole bytes = nat_le 4 (length bytes) && (nat_le 1 (first_length bytes) && (nat_le (first_length bytes) greatest && nat_le (4 + first_length bytes) (length bytes)))
+begins_whole bytes =
+    let first = first_length bytes in
+    nat_le 4 (length bytes) && (nat_le 1 first && (nat_le first greatest && nat_le (4 + first) (length bytes)))
 
 abbrev pub first_payload : List ℕ → List ℕ
 first_payload bytes = take (first_length bytes) (drop 4 bytes)
@@ -43,6 +45,10 @@ read_records (suc n) bytes = with_first (begins_whole bytes) bytes (read_records
 -- Each record takes a byte at least.
 unfoldable pub contents : List ℕ → Contents
 contents bytes = read_records (length bytes) bytes
+
+-- the payloads that the bytes stand for
+abbrev pub payloads_of : List ℕ → List (List ℕ)
+payloads_of bytes = (contents bytes).payloads
 
 -- these bytes are whole records, and stand for these payloads
 abbrev pub StandsFor : List (List ℕ) → List ℕ → Type 0

@@ -1,7 +1,7 @@
-ghost use Rattle.std.specs.Prelude.{◌≡◌, ◌≤◌, length, IfOk};
+ghost use Rattle.std.specs.Prelude.{◌≡◌, ◌≤◌, length};
 ghost use Rattle.journal_core.specs.Records.{spelled, greatest};
 
-use kinds::Memory;
+use lists::Memory;
 use std::alloc::Global;
 use std::marker::Model;
 
@@ -43,6 +43,7 @@ impl Record {
         let _ = self.bytes.extend_from_slice(payload);
     }
 
+    /// The record that was put into the room.
     pub(crate) fn as_slice(&self) -> &[u8]
         ensures { result.now ≡ self.now }
     {

@@ -1,11 +1,11 @@
--- What each arm of the code's step answers, as the machine.
+-- What each arm of the code's step answers, as the automaton.
 use Rattle.std.proofs.Common.{◌≡◌, ℕ, ◌+◌, ◌<◌, Bool, true, false, List, [], ◌∷◌, ◌++◌, refl, sym, ◌∙◌, ap, subst, append_assoc, Option, Some, None, Result, Ok, Err}
 use Rattle.std.proofs.lemmas.Bool.{eqb-true, eq-eqb}
 use Rattle.std.specs.Prelude.{⊤, ◌==◌, codes, OnOk, IfErr}
 use Rattle.json_text.specs.Bytes.{is_space}
 use Rattle.json_text.specs.Lexical.{Pattern}
 use Rattle.json_text.specs.Grammar.{Json, null, boolean, number, text, Turn, whole, nothing, element, name, member, parts_at}
-use Rattle.json_text.specs.Machine.{token, Frame, Mode, closes, with_byte, first, next, after, text_at, character, numeral, word, State, state, put, begin, begin_after, begin_value, begin_number, takes_values, left_after, has_ended, step_in, step_after, step_character, step_word, next_stage, may_end}
+use Rattle.json_text.specs.Automaton.{token, Frame, Mode, closes, with_byte, first, next, after, text_at, character, numeral, word, State, state, put, begin, begin_after, begin_value, begin_number, takes_values, left_after, has_ended, step_in, step_after, step_character, step_word, next_stage, may_end}
 use Rattle.json_text.specs.Nodes.{nodes, kind_of, parts_of}
 use Rattle.json_text.specs.Building.{Puts}
 use Rattle.json_text.specs.Reading.{IsMode, IsWithin, IsToken, Holds, Stays, Answers, Begins}

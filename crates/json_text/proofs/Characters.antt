@@ -5,7 +5,7 @@ use Rattle.json_text.proofs.Booleans.{both, and_left, and_right, either_of}
 use Rattle.std.proofs.lemmas.Bool.{eqb-true}
 use Rattle.std.specs.Prelude.{⊤, nat_lt, not, ◌==◌}
 use Rattle.json_text.specs.Lexical.{Class, Pattern, in_class, matches, characters, Among, IsCharacter}
-use Rattle.json_text.specs.Machine.{left_after, has_ended}
+use Rattle.json_text.specs.Automaton.{left_after, has_ended}
 
 -- ---- a pattern that some bytes have followed so far
 

@@ -1,11 +1,11 @@
--- A whole text is read as the machine reads it.
-use Rattle.std.proofs.Common.{◌≡◌, ℕ, ◌+◌, ◌<◌, ◌≤◌, Bool, true, false, cond, nat_le, List, [], ◌∷◌, ◌++◌, append-nil, refl, sym, ◌∙◌, ap, ◌⊎◌, inl, inr, arith, length, take, drop, Option, Some, None, Result, Ok, Err}
+-- A whole text is read as the automaton reads it.
+use Rattle.std.proofs.Common.{◌≡◌, ℕ, ◌+◌, ◌<◌, ◌≤◌, Bool, true, false, cond, nat_le, List, [], ◌∷◌, ◌++◌, append-nil, refl, sym, ◌∙◌, ap, ◌⊎◌, inl, inr, arith, length, take, drop, Option, Some, Result, Ok, Err}
 use Rattle.std.proofs.lemmas.Bool.Decides.{nat_tests}
 use Rattle.std.proofs.Math.Seq.{take-length}
 use Rattle.std.specs.Prelude.{slice_index, MatchResult}
-use Rattle.json_text.specs.Grammar.{Json}
-use Rattle.json_text.specs.Machine.{State, start, step, run, value_of}
-use Rattle.json_text.specs.Reading.{Answers}
+use Rattle.json_text.specs.Nodes.{Document}
+use Rattle.json_text.specs.Automaton.{State, start, step, run, value_of}
+use Rattle.json_text.specs.Reading.{Answers, EndsAs}
 use Rattle.json_text.specs.Texts.{end_at, go_on, read_from, read_text}
 use Rattle.json_text.specs.declared.fault.JsonFault.{JsonFault}
 use Rattle.json_text.specs.declared.fault.JsonFault.TheVariants as fault
@@ -31,7 +31,7 @@ read-end at s = refl
 ran-nothing : (s t : State) → run 64 [] s ≡ Some t → s ≡ t
 ran-nothing s t h = let e : Some s ≡ Some t = sym (run-nil 64 s) ∙ h in cc
 
--- Behind bytes that the machine takes, the rest is read from its state.
+-- Behind bytes that the automaton takes, the rest is read from its state.
 read-run : (v rest : List ℕ) (at : ℕ) (s t : State) → run 64 v s ≡ Some t → read_from at (v ++ rest) s ≡ read_from (at + length v) rest t
 read-run [] rest at s t h = ap (λ (x : State). read_from at rest x) (ran-nothing s t h) ∙ ap (λ (n : ℕ). read_from n rest t) (omega arith)
 read-run (b ∷ bs) rest at s t h =
@@ -42,7 +42,7 @@ read-run (b ∷ bs) rest at s t h =
     ∙ read-run bs rest (at + 1) g.through t g.on
     ∙ ap (λ (n : ℕ). read_from n rest t) (omega arith)
 
--- where the machine stands behind the first bytes, the text is read from there
+-- where the automaton stands behind the first bytes, the text is read from there
 read-here : (w : List ℕ) (r : Reader) (at : ℕ) (h : ReadsTo w r at) (rest : List ℕ) → take at w ++ rest ≡ w → length (take at w) ≡ at → read_text w ≡ read_from at rest h.here
 read-here w r at h rest parts size =
     ap (λ (x : List ℕ). read_from 0 x start) (sym parts)
@@ -50,8 +50,8 @@ read-here w r at h rest parts size =
     ∙ ap (λ (n : ℕ). read_from n rest h.here) (omega (arith, size))
 
 -- what a call that reads a text answers
-abbrev pub Decides : List ℕ → Result Json JsonFault → Type 0
-Decides w result = MatchResult result (λ j. read_text w ≡ Ok j) (λ e. (e ≡ fault.Memory) ⊎ (read_text w ≡ Err e))
+abbrev pub Decides : List ℕ → Result Document JsonFault → Type 0
+Decides w result = MatchResult result (λ d. read_text w ≡ Ok d.value) (λ e. (e ≡ fault.Memory) ⊎ (read_text w ≡ Err e))
 
 pub step-decides : (w : List ℕ) (r s : Reader) (at byte : ℕ) (e : JsonFault) (h : ReadsTo w r at) → at < length w → byte ≡ slice_index w at → Answers w at (step h.here byte) (Err e) s → (e ≡ fault.Memory) ⊎ (read_text w ≡ Err e)
 step-decides w r s at byte (fault.NotJson p) h l e a =
@@ -72,8 +72,8 @@ text-end w r at h e =
     read-here w r at h [] (ap (λ (x : List ℕ). x ++ []) all ∙ append-nil w) (ap length all ∙ sym e)
     ∙ read-end at h.here ∙ ap (λ (n : ℕ). end_at n (value_of h.here)) e
 
-pub end-decides : (w : List ℕ) (r : Reader) (at : ℕ) (h : ReadsTo w r at) → at ≡ length w → (result : Result Json JsonFault)
-    → MatchResult result (λ t. value_of h.here ≡ Some t) (λ e. (e ≡ fault.Memory) ⊎ ((e ≡ fault.NotJson (length r.bytes.now)) × (value_of h.here ≡ None))) → Decides w result
+pub end-decides : (w : List ℕ) (r : Reader) (at : ℕ) (h : ReadsTo w r at) → at ≡ length w → (result : Result Document JsonFault)
+    → EndsAs (length r.bytes.now) (value_of h.here) result → Decides w result
 end-decides w r at h e (Ok t) v = text-end w r at h e ∙ ap (end_at (length w)) v
 end-decides w r at h e (Err x) (inl m) = inl m
 end-decides w r at h e (Err x) (inr m) = inr (text-end w r at h e ∙ ap (end_at (length w)) m.1 ∙ ap Err (ap (λ (y : List ℕ). fault.NotJson (length y)) (sym h.shows.source) ∙ sym m.0))

@@ -11,7 +11,7 @@ use Rattle.json_text.proofs.Reading.{run-nil, run-one, run-append, step-in-is, I
 use Rattle.json_text.proofs.Values.{text-runs}
 use Rattle.json_text.specs.Lexical.{Pattern, Among, IsString, none}
 use Rattle.json_text.specs.Grammar.{Json, null, number, text, Parts, no_parts, part, Turn, whole, nothing, element, name, member, following, parts_at, may_stand, AreMore, IsText, IsJson, depth}
-use Rattle.json_text.specs.Machine.{Frame, takes_values, Mode, first, next, after, text_at, character, numeral, word, State, state, with_byte, put, closes, closed, step, value_of, only_part, start, run, has_ended}
+use Rattle.json_text.specs.Automaton.{Frame, takes_values, Mode, first, next, after, text_at, character, numeral, word, State, state, with_byte, put, closes, closed, step, value_of, only_part, start, run, has_ended}
 use Rattle.json_text.specs.Places.{MayBegin, NeverBegins, MayBeginDeeper, NeverBeginsDeeper, IsNotJsonAt, IsTooDeepAt}
 use Rattle.json_text.specs.declared.number.Stage.{Stage}
 

@@ -4,7 +4,7 @@ use Rattle.std.proofs.lemmas.Bool.{eqb-true}
 use Rattle.json_text.proofs.Booleans.{each-snoc}
 use Rattle.json_text.specs.Bytes.{is_space}
 use Rattle.json_text.specs.Grammar.{Json, Parts, no_parts, part, spelling, Turn, whole, nothing, element, name, member, following, turn_after, parts_at, may_stand, IsSpaces, IsValue, AreParts, AreMore, depth, depth_of_parts}
-use Rattle.json_text.specs.Machine.{Frame, with_byte, snoc, put, closes, closed}
+use Rattle.json_text.specs.Automaton.{Frame, with_byte, snoc, put, closes, closed}
 
 -- the turn of the first part, and the bracket before it
 abbrev pub first_turn : Turn → Turn
@@ -95,9 +95,6 @@ abbrev pub IsReady : Frame → Type 0
 IsReady f = IsFresh f ⊎ IsParted f
 
 -- ---- spaces
-
-snoc-assoc : {A : Type 0} (a b c : List A) (x : A) → (a ++ b ++ c) ++ x ∷ [] ≡ a ++ b ++ (c ++ x ∷ [])
-snoc-assoc a b c x = append_assoc (a ++ b) c (x ∷ [])
 
 pub fresh-space : (f : Frame) (b : ℕ) → IsFresh f → is_space b ≡ true → IsFresh (with_byte b f)
 fresh-space f b h k = record {

@@ -4,7 +4,7 @@ use Rattle.std.specs.Prelude.{slice_range}
 use Rattle.std.proofs.Math.Seq.{get_or-append_seam, set-append_seam, drop-append_seam}
 use Rattle.std.proofs.lemmas.List.{drop-take, length-take}
 use Rattle.json_text.specs.Grammar.{Json, Parts, no_parts, part, spelling, Turn, whole, nothing, element, name, member, following}
-use Rattle.json_text.specs.Machine.{Frame, snoc, closed}
+use Rattle.json_text.specs.Automaton.{Frame, snoc, closed}
 use Rattle.json_text.specs.Nodes.{list_of, nodes, nodes_of, kind_of, parts_of}
 use Rattle.json_text.specs.Entries.{Laid, IsEntry, AreEntries, turn_of, bytes_below, bracket_kind}
 use Rattle.json_text.specs.Building.{AddsPart, IsLeaf, ended_entry}

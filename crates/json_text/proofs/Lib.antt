@@ -15,7 +15,10 @@ pub mod Arms
 pub mod Whole
 pub mod Pieces
 pub mod Writing
-pub mod Members
+pub mod Named
 pub mod ReadBack
 pub mod Deciding
 pub mod Siblings
+pub mod OneText
+pub mod Seeking
+pub mod OneGrammar

@@ -5,7 +5,7 @@ use Rattle.std.specs.Prelude.{◌==◌}
 use Rattle.json_text.proofs.Booleans.{chosen, each-snoc}
 use Rattle.json_text.specs.Bytes.{is_digit, is_leading_digit, is_exponent_mark, is_sign}
 use Rattle.json_text.specs.Lexical.{IsPositive, AreDigits, IsMinus, IsWhole, IsFraction, IsSign, Maybe, IsNumber}
-use Rattle.json_text.specs.Machine.{from_minus, from_whole, next_stage, may_end}
+use Rattle.json_text.specs.Automaton.{from_minus, from_whole, next_stage, may_end}
 use Rattle.json_text.specs.declared.number.Stage.{Stage}
 use Rattle.json_text.specs.declared.number.Stage.TheVariants as stage
 

@@ -6,7 +6,7 @@ use Rattle.std.specs.Prelude.{◌==◌, option_and_then}
 use Rattle.json_text.proofs.Booleans.{either_of}
 use Rattle.json_text.specs.Bytes.{Each, is_digit, is_leading_digit, is_exponent_mark, is_sign}
 use Rattle.json_text.specs.Lexical.{AreDigits, IsMinus, IsWhole, IsFraction, IsSign, IsExponent, Maybe, IsNumber}
-use Rattle.json_text.specs.Machine.{from_minus, next_stage, may_end}
+use Rattle.json_text.specs.Automaton.{from_minus, next_stage, may_end}
 use Rattle.json_text.specs.declared.number.Stage.{Stage}
 use Rattle.json_text.specs.declared.number.Stage.TheVariants as stage
 

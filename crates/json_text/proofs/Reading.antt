@@ -9,7 +9,7 @@ use Rattle.json_text.proofs.Passing.{pass, number-passes}
 use Rattle.json_text.specs.Bytes.{is_space, is_digit, is_leading_digit, is_exponent_mark}
 use Rattle.json_text.specs.Lexical.{Pattern, in_class, matches, Among, characters, IsString, AreCharacters, none, more, IsNumber}
 use Rattle.json_text.specs.Grammar.{Json, null, boolean, number, text, Parts, no_parts, part, is_text, Turn, whole, nothing, element, name, member, parts_at, may_stand, IsSpaces}
-use Rattle.json_text.specs.Machine.{Frame, takes_values, Mode, first, next, after, text_at, character, numeral, word, State, state, with_byte, snoc, put, closes, close, begin_value, begin_after, begin, step_after, step_character, step_in, step, next_stage, from_minus, may_end, left_after, has_ended, run}
+use Rattle.json_text.specs.Automaton.{Frame, takes_values, Mode, first, next, after, text_at, character, numeral, word, State, state, with_byte, snoc, put, closes, close, begin_value, begin_after, begin, step_after, step_character, step_in, step, next_stage, from_minus, may_end, left_after, has_ended, run}
 use Rattle.json_text.specs.declared.number.Stage.{Stage}
 use Rattle.json_text.specs.declared.number.Stage.TheVariants as stage
 
@@ -40,9 +40,6 @@ pub run-append : (limit : ℕ) (v w : List ℕ) (s t : State) → run limit v s 
 unfolding run
 run-append limit [] w s t e = let same : s ≡ t = cc in ap (λ (x : State). run limit w x) same
 run-append limit (b ∷ v) w s t e = run-append-at limit b v w t (λ u k. run-append limit v w u t k) (step s b) e
-
-pub run-then : (limit : ℕ) (v w : List ℕ) (s t : State) (o : Option State) → run limit v s ≡ Some t → run limit w t ≡ o → run limit (v ++ w) s ≡ o
-run-then limit v w s t o e h = run-append limit v w s t e ∙ h
 
 pub step-in-is : (m : Mode) (f : Frame) (fs : List Frame) (b : ℕ) → step (state m f fs) b ≡ step_in m b f fs
 unfolding step

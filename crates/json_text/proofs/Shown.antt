@@ -1,9 +1,9 @@
--- What each call of the code's reader leaves, as a state of the machine.
+-- What each call of the code's reader leaves, as a state of the automaton.
 use Rattle.std.proofs.Common.{◌≡◌, ℕ, suc, ◌+◌, ◌<◌, ◌≤◌, List, [], ◌∷◌, ◌++◌, refl, sym, ◌∙◌, ap, subst, append_assoc, append-nil, arith, length, take, Option, Some, None, Result, Ok, Err}
 use Rattle.std.specs.Prelude.{⊤, slice_index, slice_range}
 use Rattle.std.proofs.lemmas.List.{length-take, take_more}
 use Rattle.json_text.specs.Grammar.{Json, number, spelling}
-use Rattle.json_text.specs.Machine.{token, Frame, Mode, first, next, after, text_at, character, numeral, word, State, state, with_byte, put, closed, close, open_at, start}
+use Rattle.json_text.specs.Automaton.{token, Frame, Mode, first, next, after, text_at, character, numeral, word, State, state, with_byte, put, closed, close, open_at, start}
 use Rattle.json_text.specs.Nodes.{nodes, kind_of, parts_of}
 use Rattle.json_text.specs.Entries.{turn_of, bytes_below}
 use Rattle.json_text.specs.Building.{Lies, IsLeaf, Puts, Opens, Closes, IsInside, IsOutermost}
@@ -22,9 +22,6 @@ as-answer w at o p result r e h = subst (λ (x : Option State). Answers w at x r
 
 pub not-json-answer : (w : List ℕ) (at : ℕ) (o : Option State) (f : JsonFault) (r : Reader) → f ≡ fault.NotJson at → o ≡ None → Answers w at o (Err f) r
 not-json-answer w at o f r e h = subst (λ (x : JsonFault). Answers w at o (Err x) r) (sym e) (refl, h)
-
-pub memory-answer : (w : List ℕ) (at : ℕ) (o : Option State) (f : JsonFault) (r : Reader) → f ≡ fault.Memory → Answers w at o (Err f) r
-memory-answer w at o f r e = subst (λ (x : JsonFault). Answers w at o (Err x) r) (sym e) tt
 
 pub take-one : (w : List ℕ) (at byte : ℕ) → at < length w → byte ≡ slice_index w at → take (at + 1) w ≡ take at w ++ byte ∷ []
 take-one w at byte h e = take_more w at 0 h ∙ ap (λ (x : ℕ). take at w ++ x ∷ []) (sym e)

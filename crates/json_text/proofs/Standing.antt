@@ -8,7 +8,7 @@ use Rattle.json_text.proofs.Frames.{first_turn, opener, starts, IsFresh, IsDone,
 use Rattle.json_text.specs.Bytes.{is_space}
 use Rattle.json_text.specs.Lexical.{Pattern, characters, AreCharacters, none, more, IsNumber}
 use Rattle.json_text.specs.Grammar.{Json, null, boolean, number, text, Parts, no_parts, part, spelling, Turn, whole, nothing, element, name, member, following, parts_at, may_stand, IsSpaces, IsValue, AreMore, IsText, depth, depth_of_parts}
-use Rattle.json_text.specs.Machine.{Frame, Mode, first, next, after, text_at, character, numeral, word, State, state, with_byte, put, closes, closed, close, open_at, begin_word, begin_number, begin_value, begin_after, begin, step_after, step_character, step_numeral, step_word, step_in, step, next_stage, may_end, left_after, has_ended, value_of, ended, only_part, start, takes_values, token}
+use Rattle.json_text.specs.Automaton.{Frame, Mode, first, next, after, text_at, character, numeral, word, State, state, with_byte, put, closes, closed, close, open_at, begin_word, begin_number, begin_value, begin_after, begin, step_after, step_character, step_numeral, step_word, step_in, step, next_stage, may_end, left_after, has_ended, value_of, ended, only_part, start, takes_values, token}
 use Rattle.json_text.specs.Entries.{bytes_below}
 use Rattle.json_text.specs.declared.number.Stage.{Stage}
 use Rattle.json_text.specs.declared.number.Stage.TheVariants as stage

@@ -3,7 +3,7 @@ use Rattle.std.proofs.Common.{◌≡◌, ℕ, suc, ◌+◌, ◌≤◌, true, fal
 use Rattle.json_text.proofs.Reading.{run-nil, run-one, run-append, step-in-is, with_bytes, spaces-run, IsAt, at-run, at-step, space-breaks, IsStart, takes-as, start-value, null-run, true-run, false-run, number-run, text-run, parts_on, parts-on-none, closes-breaks, parts-break, close-step, mark-step, fresh-close-step}
 use Rattle.json_text.specs.Bytes.{is_space}
 use Rattle.json_text.specs.Grammar.{Json, null, boolean, number, text, array, object, Parts, no_parts, part, spelling, Turn, whole, element, name, following, turn_after, parts_at, may_stand, IsSpaces, IsValue, AreParts, AreMore, IsText, depth, depth_of_parts}
-use Rattle.json_text.specs.Machine.{Frame, Mode, first, next, after, State, state, with_byte, snoc, put, closes, closed, open_at, step_in, step_after, value_of, only_part, start, run}
+use Rattle.json_text.specs.Automaton.{Frame, Mode, first, next, after, State, state, with_byte, snoc, put, closes, closed, open_at, step_in, step_after, value_of, only_part, start, run}
 
 abbrev Reads : ℕ → Mode → Frame → List Frame → Json → Type 0
 Reads limit m f fs j = (s : State) × (run limit (spelling j) (state m f fs) ≡ Some s) × IsAt s f fs j

@@ -8,9 +8,9 @@ use Rattle.std.proofs.Math.ListN.{get_or-append}
 use Rattle.std.proofs.Math.Seq.{drop-append-add, drop-append_seam}
 use Rattle.json_text.proofs.Booleans.{decide}
 use Rattle.json_text.specs.Grammar.{Json, null, boolean, number, text, array, object, Parts, no_parts, part}
-use Rattle.json_text.specs.Nodes.{list_of, nodes, nodes_of, kind_of, parts_of, value_at, IsNodeOf}
+use Rattle.json_text.specs.Nodes.{Document, list_of, nodes, nodes_of, kind_of, parts_of, value_at, IsNodeOf}
 use Rattle.json_text.specs.Entries.{AreEntries, IsEntry}
-use Rattle.json_text.specs.Trees.{Piece, piece_of, piece_in, value_from, tree_of, tag, IsTree, value-from-pieces}
+use Rattle.json_text.specs.Trees.{Piece, piece_of, piece_in, value_from, tree_of, document_of, tag, IsTree, value-from-pieces}
 use Rattle.json_text.proofs.Laying.{entries-length}
 use Rattle.json_text.specs.declared.entry.Entry.{Entry}
 
@@ -40,7 +40,7 @@ unfolding tree_of
 tree-is w es j h = ap value_from (pieces-are w 0 es (nodes j) h) ∙ value-from-pieces j
 
 pub tree-stands : (w : List ℕ) (es : List Entry) (j : Json) → AreEntries w 0 es (nodes j) → IsTree w es
-tree-stands w es j h = subst (λ (x : Json). AreEntries w 0 es (nodes x)) (sym (tree-is w es j h)) h
+tree-stands w es j h = record { entries = subst (λ (x : Json). AreEntries w 0 es (nodes x)) (sym (tree-is w es j h)) h }
 
 -- ---- the nodes of a value
 
@@ -68,16 +68,16 @@ parts-are (text w) = refl
 parts-are (array w js) = refl
 parts-are (object w js) = refl
 
-is-below : (a b : ℕ) → nat_lt a b ≡ true → a < b
+pub is-below : (a b : ℕ) → nat_lt a b ≡ true → a < b
 is-below a b h = grind (arith, nat_tests)
 
-is-not-below : (a b : ℕ) → nat_lt a b ≡ false → b ≤ a
+pub is-not-below : (a b : ℕ) → nat_lt a b ≡ false → b ≤ a
 is-not-below a b h = grind (arith, nat_tests)
 
-head-of : (xs : List Json) (n : ℕ) (x : Json) (rest : List Json) → n < length xs → drop n xs ≡ x ∷ rest → get_or xs n null ≡ x
+pub head-of : (xs : List Json) (n : ℕ) (x : Json) (rest : List Json) → n < length xs → drop n xs ≡ x ∷ rest → get_or xs n null ≡ x
 head-of xs n x rest l e = let d : get_or xs n null ∷ drop (n + 1) xs ≡ x ∷ rest = sym (drop_more xs n null l) ∙ e in cc
 
-tail-of : (xs : List Json) (n : ℕ) (x : Json) (rest : List Json) → n < length xs → drop n xs ≡ x ∷ rest → drop (n + 1) xs ≡ rest
+pub tail-of : (xs : List Json) (n : ℕ) (x : Json) (rest : List Json) → n < length xs → drop n xs ≡ x ∷ rest → drop (n + 1) xs ≡ rest
 tail-of xs n x rest l e = let d : get_or xs n null ∷ drop (n + 1) xs ≡ x ∷ rest = sym (drop_more xs n null l) ∙ e in cc
 
 suc-is : (n m : ℕ) → suc n + m ≡ suc (n + m)
@@ -87,7 +87,7 @@ drop-none : (m : ℕ) → drop {A = Json} m [] ≡ []
 drop-none zero = refl
 drop-none (suc m) = refl
 
-drop_twice : (n m : ℕ) (xs : List Json) → drop (n + m) xs ≡ drop m (drop n xs)
+pub drop_twice : (n m : ℕ) (xs : List Json) → drop (n + m) xs ≡ drop m (drop n xs)
 drop_twice zero m xs = ap (λ (x : ℕ). drop x xs) (zero-add m)
 drop_twice (suc n) m [] = ap (λ (x : ℕ). drop {A = Json} x []) (suc-is n m) ∙ sym (drop-none m)
 drop_twice (suc n) m (x ∷ xs) = ap (λ (y : ℕ). drop y (x ∷ xs)) (suc-is n m) ∙ drop_twice n m xs
@@ -136,37 +136,37 @@ mutual
 
 -- ---- a walk over the parts
 
-pub record IsPartAt (root : Json) (ps : List Json) (child i : ℕ) : Type 0 where
+pub record IsPartAt (root : Document) (ps : List Json) (child i : ℕ) : Type 0 where
   pub rest : Parts
   pub tail : List Json
-  pub nodes_left : drop child (nodes root) ≡ nodes_of rest ++ tail
+  pub nodes_left : drop child (nodes root.value) ≡ nodes_of rest ++ tail
   pub parts_left : drop i ps ≡ list_of rest
 
-pub first-part : (root : Json) (n : ℕ) → IsNodeOf root n → IsPartAt root (parts_of (value_at root n)) (n + 1) 0
+pub first-part : (root : Document) (n : ℕ) → IsNodeOf root n → IsPartAt root (parts_of (value_at root n)) (n + 1) 0
 first-part root n l =
     let v : Json = value_at root n in
-    let s = stands-at root n l in
-    let e : v ∷ drop (n + 1) (nodes root) ≡ v ∷ (nodes_of (as_parts v) ++ s.0) = sym (drop_more (nodes root) n null l) ∙ s.1 ∙ ap (λ (x : List Json). x ++ s.0) (nodes-are v) in
-    let t : drop (n + 1) (nodes root) ≡ nodes_of (as_parts v) ++ s.0 = cc in
+    let s = stands-at root.value n l in
+    let e : v ∷ drop (n + 1) (nodes root.value) ≡ v ∷ (nodes_of (as_parts v) ++ s.0) = sym (drop_more (nodes root.value) n null l) ∙ s.1 ∙ ap (λ (x : List Json). x ++ s.0) (nodes-are v) in
+    let t : drop (n + 1) (nodes root.value) ≡ nodes_of (as_parts v) ++ s.0 = cc in
     record { rest = as_parts v; tail = s.0; nodes_left = t; parts_left = parts-are v }
 
-pub record IsPart (root : Json) (ps : List Json) (child i : ℕ) : Type 0 where
-  pub within : child < length (nodes root)
+pub record IsPart (root : Document) (ps : List Json) (child i : ℕ) : Type 0 where
+  pub within : child < length (nodes root.value)
   pub is : slice_get ps i ≡ Some (value_at root child)
   pub on : IsPartAt root ps (child + length (nodes (value_at root child))) (i + 1)
 
-part-with : (root : Json) (ps : List Json) (child i : ℕ) (rest : Parts) (tail : List Json) → i < length ps → drop child (nodes root) ≡ nodes_of rest ++ tail → drop i ps ≡ list_of rest → IsPart root ps child i
+part-with : (root : Document) (ps : List Json) (child i : ℕ) (rest : Parts) (tail : List Json) → i < length ps → drop child (nodes root.value) ≡ nodes_of rest ++ tail → drop i ps ≡ list_of rest → IsPart root ps child i
 part-with root ps child i no_parts tail l e f =
     let n : length (drop i ps) ≡ 0 = ap length f in absurd (omega (arith, length-drop i ps))
 part-with root ps child i (part j js) tail l e f =
-    let g : drop child (nodes root) ≡ j ∷ ((nodes_of (as_parts j) ++ nodes_of js) ++ tail) = e ∙ ap (λ (x : List Json). (x ++ nodes_of js) ++ tail) (nodes-are j) in
-    let n : length (drop child (nodes root)) ≡ suc (length ((nodes_of (as_parts j) ++ nodes_of js) ++ tail)) = ap length g in
-    let lt : child < length (nodes root) = omega (arith, length-drop child (nodes root)) in
-    let v : value_at root child ≡ j = head-of (nodes root) child j ((nodes_of (as_parts j) ++ nodes_of js) ++ tail) lt g in
+    let g : drop child (nodes root.value) ≡ j ∷ ((nodes_of (as_parts j) ++ nodes_of js) ++ tail) = e ∙ ap (λ (x : List Json). (x ++ nodes_of js) ++ tail) (nodes-are j) in
+    let n : length (drop child (nodes root.value)) ≡ suc (length ((nodes_of (as_parts j) ++ nodes_of js) ++ tail)) = ap length g in
+    let lt : child < length (nodes root.value) = omega (arith, length-drop child (nodes root.value)) in
+    let v : value_at root child ≡ j = head-of (nodes root.value) child j ((nodes_of (as_parts j) ++ nodes_of js) ++ tail) lt g in
     let m : i < length ps = l in
     let p : get_or ps i null ≡ j = head-of ps i j (list_of js) m f in
-    let after : drop (child + length (nodes j)) (nodes root) ≡ nodes_of js ++ tail =
-    drop_twice child (length (nodes j)) (nodes root) ∙ ap (drop (length (nodes j))) (e ∙ append_assoc (nodes j) (nodes_of js) tail) ∙ drop-append_seam (nodes j) (nodes_of js ++ tail) in
+    let after : drop (child + length (nodes j)) (nodes root.value) ≡ nodes_of js ++ tail =
+    drop_twice child (length (nodes j)) (nodes root.value) ∙ ap (drop (length (nodes j))) (e ∙ append_assoc (nodes j) (nodes_of js) tail) ∙ drop-append_seam (nodes j) (nodes_of js ++ tail) in
     let left : drop (i + 1) ps ≡ list_of js = tail-of ps i j (list_of js) m f in
     record {
       within = lt;
@@ -174,15 +174,15 @@ part-with root ps child i (part j js) tail l e f =
       on = subst (λ (x : Json). IsPartAt root ps (child + length (nodes x)) (i + 1)) (sym v) (record { rest = js; tail = tail; nodes_left = after; parts_left = left });
     }
 
-pub part-here : (root : Json) (ps : List Json) (child i : ℕ) → IsPartAt root ps child i → i < length ps → IsPart root ps child i
+pub part-here : (root : Document) (ps : List Json) (child i : ℕ) → IsPartAt root ps child i → i < length ps → IsPart root ps child i
 part-here root ps child i h l = part-with root ps child i h.rest h.tail l h.nodes_left h.parts_left
 
 -- the entry of a tree at a node
-pub shown-at : (w : List ℕ) (es xs : List Entry) (j : Json) (n : ℕ) (d : Entry) → xs ≡ es → IsTree w es → tree_of w es ≡ j → n < length (nodes j) → IsEntry w n (get_or xs n d) (value_at j n)
-shown-at w es xs j n d s h v l =
-    let k = subst (λ (x : Json). AreEntries w 0 es (nodes x)) v h in
-    subst (λ (x : List Entry). IsEntry w n (get_or x n d) (value_at j n)) (sym s)
-    (subst (λ (x : ℕ). IsEntry w x (get_or es n d) (value_at j n)) (zero-add n) (entry-at w 0 n es (nodes j) d k l))
+pub shown-at : (w : List ℕ) (es xs : List Entry) (d : Document) (n : ℕ) (x : Entry) → xs ≡ es → IsTree w es → document_of w es ≡ d → n < length (nodes d.value) → IsEntry w n (get_or xs n x) (value_at d n)
+shown-at w es xs d n x s h v l =
+    let k = subst (λ (y : Document). AreEntries w 0 es (nodes y.value)) v h.entries in
+    subst (λ (y : List Entry). IsEntry w n (get_or y n x) (value_at d n)) (sym s)
+    (subst (λ (y : ℕ). IsEntry w y (get_or es n x) (value_at d n)) (zero-add n) (entry-at w 0 n es (nodes d.value) x k l))
 
-pub tree-length : (w : List ℕ) (es : List Entry) (j : Json) → IsTree w es → tree_of w es ≡ j → length es ≡ length (nodes j)
-tree-length w es j h v = entries-length w 0 es (nodes j) (subst (λ (x : Json). AreEntries w 0 es (nodes x)) v h)
+pub tree-length : (w : List ℕ) (es : List Entry) (d : Document) → IsTree w es → document_of w es ≡ d → length es ≡ length (nodes d.value)
+tree-length w es d h v = entries-length w 0 es (nodes d.value) (subst (λ (y : Document). AreEntries w 0 es (nodes y.value)) v h.entries)

@@ -5,7 +5,7 @@ use Rattle.json_text.specs.declared.entry.Entry.{Entry}
 use Rattle.std.proofs.lemmas.List.{length-take, take-append-drop, drop_more}
 use Rattle.std.specs.Prelude.{⊤, slice_index, MatchResult}
 use Rattle.json_text.specs.Grammar.{Json, number, Parts, no_parts, part, whole, Turn, following, IsJson}
-use Rattle.json_text.specs.Machine.{Frame, Mode, first, next, after, text_at, character, numeral, word, State, state, put, start, step, run, value_of, ended, only_part, may_end, token}
+use Rattle.json_text.specs.Automaton.{Frame, Mode, first, next, after, text_at, character, numeral, word, State, state, put, start, step, run, value_of, ended, only_part, may_end, token}
 use Rattle.json_text.specs.Places.{IsFaultOf, IsNotJsonAt, IsTooDeepAt}
 use Rattle.json_text.specs.Entries.{bytes_below, AreEntries, Laid}
 use Rattle.json_text.specs.Building.{IsLeaf, Puts}
@@ -19,8 +19,8 @@ use Rattle.json_text.specs.declared.reader.Mode.TheVariants as code
 use Rattle.json_text.proofs.Laying.{laid-depth}
 use Rattle.json_text.proofs.Walking.{tree-is, tree-stands}
 use Rattle.json_text.proofs.Arms.{from-first, from-next}
-use Rattle.json_text.specs.Nodes.{nodes, nodes_of}
-use Rattle.json_text.specs.Reading.{Shows, Holds, Answers, Ends, Closes, HasOne, IsAlone, IsMode, BeginsAt}
+use Rattle.json_text.specs.Nodes.{Document, nodes, nodes_of}
+use Rattle.json_text.specs.Reading.{Shows, Holds, Answers, Ends, EndsAs, Closes, HasOne, IsAlone, IsMode, BeginsAt}
 use Rattle.json_text.proofs.Frames.{IsDone, first_turn}
 use Rattle.json_text.proofs.Standing.{Stands, start-stands, number-put}
 use Rattle.json_text.proofs.Reading.{run-nil, run-one, run-append}
@@ -123,10 +123,6 @@ pub into-is : (w : List ℕ) (r : Reader) (f : Frame) (fs : List Frame) → Clos
 into-is w r f fs h l = let k = into-entries w r f fs h l in
     ap (λ (x : List Frame). ended f x) k.1 ∙ ap only_part k.2 ∙ ap Some (sym (tree-is w r.builder.nodes.items k.0 k.3))
 
-pub into-none : (w : List ℕ) (r : Reader) (f : Frame) (fs : List Frame) → Closes w r f fs → 0 < length r.builder.below.items → ended f fs ≡ None
-into-none w r f [] h l = absurd (let d : length r.builder.below.items ≡ 0 = laid-depth w r.builder.nodes.items r.builder.top r.builder.below.items f.turn f.parts [] h.lies in omega arith)
-into-none w r f (g ∷ gs) h l = refl
-
 pub after-closes : (w : List ℕ) (r : Reader) (s : State) → Ends w r s → s.mode ≡ after → Closes w r s.top s.below
 after-closes w r s h e = record { lies = h.shows.lies; alone = subst (λ (x : Mode). IsAlone x s.top s.below) e h.alone }
 
@@ -197,16 +193,16 @@ other-value (code.Text x) s h n m = text-value s.mode s.top s.below x h
 other-value (code.Number st) s h n m = absurd (m st refl)
 other-value (code.Word x) s h n m = word-value s.mode s.top s.below x h
 
-pub ends-answer : (n m : ℕ) (o p : Option Json) (result : Result Json JsonFault) → n ≡ m → p ≡ o
-    → MatchResult result (λ t. o ≡ Some t) (λ e. (e ≡ fault.NotJson n) × (o ≡ None))
-    → MatchResult result (λ t. p ≡ Some t) (λ e. (e ≡ fault.Memory) ⊎ ((e ≡ fault.NotJson m) × (p ≡ None)))
+-- the same of another count of bytes, and where the value is another's
+pub ends-answer : (n m : ℕ) (o p : Option Json) (result : Result Document JsonFault) → n ≡ m → p ≡ o → EndsAs n o result → EndsAs m p result
 ends-answer n m o p (Ok t) h k a = k ∙ a
-ends-answer n m o p (Err e) h k a = inr (a.0 ∙ ap (λ (x : ℕ). fault.NotJson x) h, k ∙ a.1)
+ends-answer n m o p (Err e) h k (inl f) = inl f
+ends-answer n m o p (Err e) h k (inr a) = inr (a.0 ∙ ap (λ (x : ℕ). fault.NotJson x) h, k ∙ a.1)
 
-pub reads-result : (w : List ℕ) (r : Reader) (at : ℕ) (h : ReadsTo w r at) → at ≡ length w → (result : Result Json JsonFault) → Ends r.bytes.now r h.here
-    → (Ends r.bytes.now r h.here → MatchResult result (λ t. value_of h.here ≡ Some t) (λ e. (e ≡ fault.Memory) ⊎ ((e ≡ fault.NotJson (length r.bytes.now)) × (value_of h.here ≡ None))))
-    → MatchResult result (λ t. IsJson w t) (λ e. IsFaultOf e w)
-reads-result w r at h e (Ok t) n go = reads-ok w r at h e t (go n)
+pub reads-result : (w : List ℕ) (r : Reader) (at : ℕ) (h : ReadsTo w r at) → at ≡ length w → (result : Result Document JsonFault) → Ends r.bytes.now r h.here
+    → (Ends r.bytes.now r h.here → EndsAs (length r.bytes.now) (value_of h.here) result)
+    → MatchResult result (λ t. IsJson w t.value) (λ e. IsFaultOf e w)
+reads-result w r at h e (Ok t) n go = reads-ok w r at h e t.value (go n)
 reads-result w r at h e (Err x) n go = reads-fault w r at h e x (same-length (go n))
   where
     same-length : ((x ≡ fault.Memory) ⊎ ((x ≡ fault.NotJson (length r.bytes.now)) × (value_of h.here ≡ None))) → (x ≡ fault.Memory) ⊎ ((x ≡ fault.NotJson (length w)) × (value_of h.here ≡ None))

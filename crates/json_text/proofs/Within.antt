@@ -4,7 +4,7 @@ use Rattle.std.proofs.lemmas.Bool.{eqb-true, eqb-false}
 use Rattle.std.specs.Prelude.{cond, not, ◌==◌}
 use Rattle.json_text.proofs.Booleans.{and_left, and_right}
 use Rattle.json_text.specs.Lexical.{Class, Pattern}
-use Rattle.json_text.specs.Machine.{left_after, has_ended}
+use Rattle.json_text.specs.Automaton.{left_after, has_ended}
 use Rattle.json_text.specs.Steps.{after_lead, alternatives, is_unescaped, next_within}
 use Rattle.json_text.specs.declared.character.Within.{Within}
 use Rattle.json_text.specs.declared.character.Within.TheVariants as at

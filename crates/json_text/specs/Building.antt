@@ -1,7 +1,7 @@
 -- What the reader's entries are, and what each of its calls does to them.
-use Rattle.std.specs.Prelude.{◌≡◌, ℕ, ◌≤◌, List, [], ◌∷◌, ◌++◌, length, take, slice_range}
+use Rattle.std.specs.Prelude.{◌≡◌, ℕ, ◌≤◌, List, [], ◌∷◌, ◌++◌, length, take, slice_range, ◌<◌, set, get_or}
 use Rattle.json_text.specs.Grammar.{Json, Parts, no_parts, spelling, Turn, following}
-use Rattle.json_text.specs.Machine.{Frame, snoc, closed}
+use Rattle.json_text.specs.Automaton.{Frame, snoc, closed}
 use Rattle.json_text.specs.Nodes.{nodes, kind_of, parts_of}
 use Rattle.json_text.specs.Entries.{Laid, IsBracket, turn_of, bytes_below}
 use Rattle.json_text.specs.declared.bracket.Bracket.{Bracket}
@@ -9,6 +9,9 @@ use Rattle.json_text.specs.declared.bracket.Turn.{Turn as CodeTurn}
 use Rattle.json_text.specs.declared.builder.Builder.{Builder}
 use Rattle.json_text.specs.declared.entry.Entry.{Entry}
 use Rattle.json_text.specs.declared.kind.Kind.{Kind}
+
+abbrev pub new_entry : Kind → ℕ → ℕ → ℕ → Entry
+new_entry kind start stop next = record { kind = kind; count = 0; start = start; stop = stop; next = next }
 
 -- the entry of a bracket that closes here
 abbrev pub ended_entry : Entry → ℕ → ℕ → ℕ → Entry
@@ -46,3 +49,8 @@ IsOutermost b = (w : List ℕ) (t : Turn) (js : Parts) (g : Frame) (gs : List Fr
 
 abbrev pub IsInside : Builder → Type 0
 IsInside b = (w : List ℕ) (t : Turn) (js : Parts) → Lies w b t js [] → ⊥
+
+-- the entry of the innermost bracket has its end
+abbrev pub EndsEntry : Builder → ℕ → Builder → Type 0
+EndsEntry old stop new = (d : Entry) → old.top.entry < length old.nodes.items
+    → new.nodes.items ≡ set old.nodes.items old.top.entry (ended_entry (get_or old.nodes.items old.top.entry d) old.top.count stop (length old.nodes.items))

@@ -1,7 +1,7 @@
 -- The entries of a tree, while it is read and when it stands.
 use Rattle.std.specs.Prelude.{◌≡◌, ℕ, ◌+◌, ◌≤◌, List, [], ◌∷◌, ◌++◌, length, slice_range, ⊤}
 use Rattle.json_text.specs.Grammar.{Json, Parts, spelling, Turn, whole, nothing, element, name, member}
-use Rattle.json_text.specs.Machine.{Frame}
+use Rattle.json_text.specs.Automaton.{Frame}
 use Rattle.json_text.specs.Nodes.{list_of, nodes, nodes_of, kind_of, parts_of}
 use Rattle.json_text.specs.declared.bracket.Bracket.{Bracket}
 use Rattle.json_text.specs.declared.bracket.Turn.{Turn as CodeTurn}

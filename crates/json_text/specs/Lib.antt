@@ -1,7 +1,7 @@
 pub mod Bytes
 pub mod Lexical
 pub mod Grammar
-pub mod Machine
+pub mod Automaton
 pub mod Places
 pub mod Steps
 pub mod Nodes
@@ -12,3 +12,6 @@ pub mod Trees
 pub mod Text
 pub mod Texts
 pub mod Splitting
+pub mod Same
+pub mod Canonical
+pub mod Starts

@@ -1,5 +1,5 @@
--- The nodes of a value: the value itself, and then those of its parts, in the order of the source.
-use Rattle.std.specs.Prelude.{ℕ, zero, suc, ◌+◌, ◌*◌, ◌/◌, ◌<◌, List, [], ◌∷◌, ◌++◌, length, get_or, Option, None, slice_get}
+-- The nodes of a text: its value, and then the nodes of the value's parts, in the order of the source.
+use Rattle.std.specs.Prelude.{◌≡◌, MatchOption, Some, ℕ, zero, suc, ◌+◌, ◌*◌, ◌/◌, ◌<◌, List, [], ◌∷◌, ◌++◌, length, get_or, Option, None, slice_get}
 use Rattle.json_text.specs.Grammar.{Json, null, boolean, number, text, array, object, Parts, no_parts, part}
 use Rattle.json_text.specs.declared.kind.Kind.{Kind}
 use Rattle.json_text.specs.declared.kind.Kind.TheVariants as kind
@@ -21,13 +21,26 @@ abbrev mutual
   nodes_of no_parts = []
   nodes_of (part j js) = nodes j ++ nodes_of js
 
+-- a text and the value that it spells
+pub record Document : Type 0 where
+  pub source : List ℕ
+  pub value : Json
+
 -- the number is that of a node
-abbrev pub IsNodeOf : Json → ℕ → Type 0
-IsNodeOf root n = n < length (nodes root)
+abbrev pub IsNodeOf : Document → ℕ → Type 0
+IsNodeOf d n = n < length (nodes d.value)
 
 -- the value at a node
-abbrev pub value_at : Json → ℕ → Json
-value_at root n = get_or (nodes root) n null
+abbrev pub value_at : Document → ℕ → Json
+value_at d n = get_or (nodes d.value) n null
+
+-- the node that is found has the value that is told, or there is none
+abbrev pub IsFound : Document → Option Json → Option ℕ → Type 0
+IsFound d told found = MatchOption found (told ≡ None) (λ m. IsNodeOf d m × (told ≡ Some (value_at d m)))
+
+-- the number behind all the nodes of the value at a node
+abbrev pub behind : Document → ℕ → ℕ
+behind d n = n + length (nodes (value_at d n))
 
 abbrev pub kind_of : Json → Kind
 kind_of null = kind.Null
@@ -82,7 +95,43 @@ items_of (text w) = []
 items_of (array w js) = list_of js
 items_of (object w js) = []
 
--- the numbers of so many nodes from this one on, each behind all the nodes of the one before
-abbrev pub siblings : Json → ℕ → ℕ → List ℕ
-siblings root n zero = []
-siblings root n (suc count) = n ∷ siblings root (n + length (nodes (value_at root n))) count
+-- names and values in turn, as members
+abbrev pub pairs : List Json → List (Json × Json)
+pairs [] = []
+pairs (k ∷ []) = []
+pairs (k ∷ v ∷ js) = (k, v) ∷ pairs js
+
+-- the members of an object: names and values
+abbrev pub members_of : Json → List (Json × Json)
+members_of null = []
+members_of (boolean b) = []
+members_of (number w) = []
+members_of (text w) = []
+members_of (array w js) = []
+members_of (object w js) = pairs (list_of js)
+
+-- so many nodes from this one on, each behind all the nodes of the one before
+abbrev pub siblings : Document → ℕ → ℕ → List ℕ
+siblings d n zero = []
+siblings d n (suc count) = n ∷ siblings d (behind d n) count
+
+-- so many names and values from this node on
+abbrev pub sibling_pairs : Document → ℕ → ℕ → List (ℕ × ℕ)
+sibling_pairs d n zero = []
+sibling_pairs d n (suc count) = (n, behind d n) ∷ sibling_pairs d (behind d (behind d n)) count
+
+-- the nodes of the items of the list at a node
+abbrev pub item_nodes : Document → ℕ → List ℕ
+item_nodes d n = siblings d (n + 1) (length (items_of (value_at d n)))
+
+-- the nodes of the members of the object at a node: names and values
+abbrev pub member_nodes : Document → ℕ → List (ℕ × ℕ)
+member_nodes d n = sibling_pairs d (n + 1) (length (members_of (value_at d n)))
+
+-- both are nodes
+abbrev pub AreNodesOf : Document → ℕ × ℕ → Type 0
+AreNodesOf d m = IsNodeOf d m.0 × IsNodeOf d m.1
+
+-- the values at both
+abbrev pub values_at : Document → ℕ × ℕ → Json × Json
+values_at d m = (value_at d m.0, value_at d m.1)

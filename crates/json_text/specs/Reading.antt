@@ -1,7 +1,8 @@
--- What the reader of the code holds, as a state of the machine.
-use Rattle.std.specs.Prelude.{◌≡◌, true, ℕ, ◌≤◌, ◌<◌, List, [], ◌∷◌, ◌++◌, length, take, slice_index, Option, Some, None, Result, Ok, Err, ⊤}
+-- What the reader of the code holds, as a state of the automaton.
+use Rattle.std.specs.Prelude.{◌≡◌, true, ℕ, ◌≤◌, ◌<◌, List, [], ◌∷◌, ◌++◌, length, take, slice_index, Option, Some, None, Result, Ok, Err, ⊤, ◌⊎◌}
 use Rattle.json_text.specs.Grammar.{Json, number, Parts, no_parts, part, spelling}
-use Rattle.json_text.specs.Machine.{Frame, Mode, first, next, after, text_at, character, numeral, word, State, state, token, begin_number, next_stage, may_end, snoc}
+use Rattle.json_text.specs.Automaton.{Frame, Mode, first, next, after, text_at, character, numeral, word, State, state, token, begin_number, next_stage, may_end, snoc}
+use Rattle.json_text.specs.Nodes.{Document}
 use Rattle.json_text.specs.Entries.{bytes_below}
 use Rattle.json_text.specs.Building.{Lies}
 use Rattle.json_text.specs.Steps.{alternatives, rest_of, word_value}
@@ -53,7 +54,7 @@ pub record Shows (w : List ℕ) (r : Reader) (s : State) : Type 0 where
   pub begins : BeginsAt s.mode r.start (length (bytes_below s.below ++ s.top.bytes))
   pub lies : Lies w r.builder s.top.turn s.top.parts s.below
 
--- the machine's state before the byte at `at`
+-- the automaton's state before the byte at `at`
 pub record Holds (w : List ℕ) (r : Reader) (at byte : ℕ) (m : Mode) (f : Frame) (fs : List Frame) : Type 0 where
   pub shows : Shows w r (state m f fs)
   pub spelled : take at w ≡ bytes_below fs ++ f.bytes ++ token m
@@ -70,7 +71,7 @@ pub record Stays (w : List ℕ) (r : Reader) (at byte : ℕ) (f : Frame) (fs : L
   pub within : at < length w
   pub byte_is : byte ≡ slice_index w at
 
--- what a step answers, where the machine answers o
+-- what a step answers, where the automaton answers o
 abbrev pub Answers : List ℕ → ℕ → Option State → Result ⊤ JsonFault → Reader → Type 0
 Answers w at o (Ok _) r = (t : State) × (o ≡ Some t) × (length t.below ≤ 64) × Shows w r t
 Answers w at o (Err (NotJson p)) r = (p ≡ at) × (o ≡ None)
@@ -91,7 +92,7 @@ IsAlone after f fs = fs ≡ [] → HasOne f.parts
 IsAlone (numeral w s) f fs = fs ≡ [] → may_end s ≡ true → HasOne (snoc f.parts (number w))
 IsAlone _ f fs = ⊤
 
--- the machine's state at the end of the bytes
+-- the automaton's state at the end of the bytes
 pub record Ends (w : List ℕ) (r : Reader) (s : State) : Type 0 where
   pub shows : Shows w r s
   pub spelled : w ≡ bytes_below s.below ++ s.top.bytes ++ token s.mode
@@ -101,3 +102,8 @@ pub record Ends (w : List ℕ) (r : Reader) (s : State) : Type 0 where
 pub record Closes (w : List ℕ) (r : Reader) (f : Frame) (fs : List Frame) : Type 0 where
   pub lies : Lies w r.builder f.turn f.parts fs
   pub alone : fs ≡ [] → HasOne f.parts
+
+-- what is answered at the end of so many bytes, where the automaton has this value
+abbrev pub EndsAs : ℕ → Option Json → Result Document JsonFault → Type 0
+EndsAs at o (Ok tree) = o ≡ Some tree.value
+EndsAs at o (Err f) = (f ≡ Memory) ⊎ ((f ≡ NotJson at) × (o ≡ None))

@@ -1,7 +1,7 @@
 -- The text that a string stands for, and the spelling that is written of a text (RFC 8259, section 7).
 use Rattle.std.specs.Prelude.{◌≡◌, ℕ, ◌+◌, ◌-◌, ◌*◌, ◌/◌, ◌%◌, Bool, cond, ◌&&◌, ◌||◌, nat_le, nat_lt, ◌==◌, List, [], ◌∷◌, ◌++◌, length, take, drop, Option, Some, None, bytes_eq, encode_utf8}
 use lib.Utf8.{scalar}
-use Rattle.json_text.specs.Grammar.{Json, spelling, object}
+use Rattle.json_text.specs.Grammar.{Json, spelling, object, is_text}
 use Rattle.json_text.specs.Nodes.{list_of}
 
 -- ---- reading
@@ -67,6 +67,10 @@ unescaped w = text_from none (inside w)
 abbrev pub text_of : Json → List ℕ
 text_of j = unescaped (spelling j)
 
+-- the value is a string that stands for this text
+abbrev pub has_text : List ℕ → Json → Bool
+has_text t j = is_text j && bytes_eq (text_of j) t
+
 -- ---- members
 
 abbrev pub or_else : Option Json → Option Json → Option Json
@@ -79,13 +83,14 @@ last_named name [] = None
 last_named name (k ∷ []) = None
 last_named name (k ∷ v ∷ rest) = or_else (last_named name rest) (cond (bytes_eq (text_of k) name) (Some v) None)
 
-abbrev pub members_of : Json → List Json
-members_of (object w js) = list_of js
-members_of _ = []
+-- the names and values of an object in turn
+abbrev pub named_parts : Json → List Json
+named_parts (object w js) = list_of js
+named_parts _ = []
 
 -- the value of the last member of this name
 abbrev pub member_of : Json → List ℕ → Option Json
-member_of j name = last_named name (members_of j)
+member_of j name = last_named name (named_parts j)
 
 -- ---- writing
 

@@ -2,7 +2,7 @@
 -- function of the bytes.
 use Rattle.std.specs.Prelude.{ℕ, ◌+◌, cond, nat_le, List, [], ◌∷◌, length, Option, Some, None, Result, Ok, Err}
 use Rattle.json_text.specs.Grammar.{Json}
-use Rattle.json_text.specs.Machine.{State, step, start, value_of}
+use Rattle.json_text.specs.Automaton.{State, step, start, value_of}
 use Rattle.json_text.specs.declared.fault.JsonFault.{JsonFault}
 use Rattle.json_text.specs.declared.fault.JsonFault.TheVariants.{NotJson, TooDeep}
 

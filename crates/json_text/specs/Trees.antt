@@ -4,7 +4,7 @@ use Rattle.std.specs.Coded.{Coded, code_by, coded×, coded_ℕ, coded_list}
 use Rattle.std.proofs.Common.{sym, ◌∙◌, ap, append_assoc, append-nil}
 use Rattle.std.proofs.Math.Seq.{take-append_seam, drop-append_seam}
 use Rattle.json_text.specs.Grammar.{Json, null, boolean, number, text, array, object, Parts, no_parts, part, spelling}
-use Rattle.json_text.specs.Nodes.{list_of, nodes, nodes_of, kind_of, parts_of}
+use Rattle.json_text.specs.Nodes.{Document, list_of, nodes, nodes_of, kind_of, parts_of}
 use Rattle.json_text.specs.Entries.{AreEntries}
 use Rattle.json_text.specs.declared.entry.Entry.{Entry}
 use Rattle.json_text.specs.declared.kind.Kind.{Kind}
@@ -92,9 +92,16 @@ mutual
 pub value-from-pieces : (j : Json) → value_from (pieces j) ≡ j
 value-from-pieces j = ap value_from (sym (append-nil (pieces j))) ∙ ap first_of (values-of j [])
 
--- a value is stored as its nodes
-abbrev pub json_code : Coded Json
-json_code = code_by (List Piece) (coded_list (coded× coded_ℕ (coded× coded_ℕ (coded_list coded_ℕ)))) pieces value_from value-from-pieces
+abbrev pub document_from : List ℕ × List Piece → Document
+document_from p = record { source = p.0; value = value_from p.1 }
+
+pub same-document : (d : Document) → document_from (d.source, pieces d.value) ≡ d
+same-document d = ap (λ (j : Json). record { source = d.source; value = j }) (value-from-pieces d.value)
+
+-- a text and its value are stored as the text and the value's nodes
+abbrev pub document_code : Coded Document
+document_code = code_by (List ℕ × List Piece) (coded× (coded_list coded_ℕ) (coded_list (coded× coded_ℕ (coded× coded_ℕ (coded_list coded_ℕ)))))
+    (λ d. (d.source, pieces d.value)) document_from same-document
 
 abbrev pub piece_in : List ℕ → Entry → Piece
 piece_in w e = (tag e.kind, (e.count, slice_range w e.start e.stop))
@@ -103,6 +110,10 @@ piece_in w e = (tag e.kind, (e.count, slice_range w e.start e.stop))
 unfoldable pub tree_of : List ℕ → List Entry → Json
 tree_of w es = value_from (map (piece_in w) es)
 
+-- the source with that value
+abbrev pub document_of : List ℕ → List Entry → Document
+document_of w es = record { source = w; value = tree_of w es }
+
 -- The entries are those of one value.
-abbrev pub IsTree : List ℕ → List Entry → Type 0
-IsTree w es = AreEntries w 0 es (nodes (tree_of w es))
+pub record IsTree (w : List ℕ) (es : List Entry) : Type 0 where
+  pub entries : AreEntries w 0 es (nodes (tree_of w es))

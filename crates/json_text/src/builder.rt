@@ -1,13 +1,12 @@
-ghost use Rattle.std.specs.Prelude.{◌≡◌, List, ℕ, true, false, [], OnOk, IfOk, length, vec_len, ◌<◌, slice_set, slice_index_or};
-ghost use Rattle.json_text.specs.declared.entry.Entry.{Entry};
-ghost use Rattle.json_text.specs.Building.{ended_entry, Lies, Puts, Opens, Closes, IsOutermost, IsInside, AddsPart};
+ghost use Rattle.std.specs.Prelude.{◌≡◌, List, ℕ, true, false, [], OnOk, IfOk, length};
+ghost use Rattle.json_text.specs.Building.{EndsEntry, Lies, Puts, Opens, Closes, IsOutermost, IsInside, AddsPart};
 ghost use Rattle.json_text.specs.Grammar.{whole, no_parts};
 ghost use Rattle.json_text.specs.Entries.{bracket_kind, turn_of};
 
 use crate::Kind;
 use crate::bracket::{Bracket, Turn};
-use crate::entry::Entry;
-use kinds::Memory;
+use crate::entry::{Entry, small};
+use lists::Memory;
 use std::alloc::Global;
 
 /// The entries so far, and the brackets that are open.
@@ -44,14 +43,8 @@ impl Builder {
     pub(crate) fn put(&mut self, kind: Kind, start: usize, stop: usize) -> Result<(), Memory>
         ensures { OnOk result (Puts self.old start stop kind self.new) }
     {
-        let next = self.nodes.len() + 1;
-        self.nodes.push(Entry {
-            kind,
-            count: 0,
-            start,
-            stop,
-            next,
-        })?;
+        let entry = Entry::new(kind, start, stop, self.nodes.len() + 1)?;
+        self.nodes.push(entry)?;
         self.top = with_part(self.top)?;
         Ok(())
     }
@@ -61,13 +54,8 @@ impl Builder {
         ensures { OnOk result (Opens self.old turn start self.new) }
     {
         let entry = self.nodes.len();
-        self.nodes.push(Entry {
-            kind: bracket_kind(turn),
-            count: 0,
-            start,
-            stop: start,
-            next: entry,
-        })?;
+        self.nodes
+            .push(Entry::new(bracket_kind(turn), start, start, entry)?)?;
         self.below.push(self.top)?;
         self.top = Bracket {
             turn,
@@ -86,23 +74,26 @@ impl Builder {
         let Some(outer) = self.below.pop() else {
             return Ok(false);
         };
-        self.end_entry(stop);
+        self.end_entry(stop)?;
         self.top = with_part(outer)?;
         Ok(true)
     }
 
     /// Writes the end of the innermost bracket into its entry.
-    fn end_entry(&mut self, stop: usize)
-        ensures top { self.new.top ≡ self.old.top }
-        ensures below { self.new.below ≡ self.old.below }
-        ensures written { (d : Entry) → self.old.top.entry < length self.old.nodes.items → self.new.nodes.items ≡ slice_set self.old.nodes.items self.old.top.entry (ended_entry (slice_index_or self.old.nodes.items self.old.top.entry d) self.old.top.count stop (length self.old.nodes.items)) }
+    fn end_entry(&mut self, stop: usize) -> Result<(), Memory>
+        ensures top { OnOk result (self.new.top ≡ self.old.top) }
+        ensures below { OnOk result (self.new.below ≡ self.old.below) }
+        ensures written { OnOk result (EndsEntry self.old stop self.new) }
     {
-        let next = self.nodes.len();
+        let count = small(self.top.count)?;
+        let stop = small(stop)?;
+        let next = small(self.nodes.len())?;
         if let Some(entry) = self.nodes.get_mut(self.top.entry) {
-            entry.count = self.top.count;
+            entry.count = count;
             entry.stop = stop;
             entry.next = next;
         }
+        Ok(())
     }
 }
 

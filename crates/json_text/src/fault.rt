@@ -1,5 +1,6 @@
-use kinds::Memory;
+use lists::Memory;
 use std::alloc::{AllocError, AllocFailed};
+use std::fmt;
 
 /// Why bytes are no JSON text. Places count bytes from 0.
 #[derive(Clone, Copy, Debug, PartialEq, Eq)]
@@ -42,5 +43,15 @@ impl<T: Drop> From<AllocFailed<T>> for JsonFault {
 
     fn from(_error: AllocFailed<T>) -> Self {
         JsonFault::Memory
+    }
+}
+
+impl fmt::Display for JsonFault {
+    fn fmt<W: fmt::Write>(&self, f: &mut fmt::Formatter<W>) -> fmt::Result {
+        match self {
+            JsonFault::NotJson { at } => write!(f, "not JSON at byte {at}"),
+            JsonFault::TooDeep { at } => write!(f, "a 65th open bracket at byte {at}"),
+            JsonFault::Memory => f.write_str("out of memory"),
+        }
     }
 }

@@ -1,6 +1,6 @@
 ghost use Rattle.std.specs.Prelude.{◌≡◌, cond};
 ghost use Rattle.json_text.specs.Bytes.{is_digit, is_exponent_mark, is_sign};
-ghost use Rattle.json_text.specs.Machine.{next_stage, may_end, from_minus, from_whole};
+ghost use Rattle.json_text.specs.Automaton.{next_stage, may_end, from_minus, from_whole};
 ghost use Rattle.json_text.specs.declared.number.Stage.TheVariants as stage;
 
 /// How far a number has come.

@@ -40,11 +40,11 @@ fn not_json(at: usize) -> JsonFault
 }
 
 impl<'a> Reader<'a> {
-    ghost use Rattle.std.specs.Prelude.{◌≡◌, List, ℕ, ◌+◌, ◌<◌, ◌∷◌, [], length, Some, None, OnOk, IfErr, MatchResult, ◌⊎◌};
+    ghost use Rattle.std.specs.Prelude.{◌≡◌, List, ℕ, ◌+◌, ◌<◌, ◌∷◌, [], length, Some, None, OnOk, IfErr, IfOk};
     ghost use Rattle.json_text.specs.Building.{Puts};
     ghost use Rattle.json_text.specs.Entries.{turn_of};
-    ghost use Rattle.json_text.specs.Machine.{Frame, Mode as State_mode, State, first, next, after, begin, begin_value, close, ended, next_stage, value_of, open_at, start, step, step_after, step_in};
-    ghost use Rattle.json_text.specs.Reading.{Answers, Closes, Ends, Holds, IsMode, Shows, Stays};
+    ghost use Rattle.json_text.specs.Automaton.{Frame, Mode as State_mode, State, first, next, after, begin, begin_value, close, ended, next_stage, value_of, open_at, start, step, step_after, step_in};
+    ghost use Rattle.json_text.specs.Reading.{Answers, Closes, Ends, EndsAs, Holds, IsMode, Shows, Stays};
     ghost use Rattle.json_text.specs.declared.fault.JsonFault.TheVariants as fault;
     ghost use Rattle.json_text.specs.declared.character.Within.TheVariants as inside;
     ghost use Rattle.json_text.specs.declared.reader.Mode.TheVariants as mode;
@@ -63,7 +63,8 @@ impl<'a> Reader<'a> {
     /// Takes the byte at this place.
     pub(crate) fn step(&mut self, at: usize, byte: u8) -> Result<(), JsonFault>
         requires { at < length self.old.bytes.now }
-        ensures { (w : List ℕ) (s : State) → Holds w self.old at byte s.mode s.top s.below → Answers w at (step s byte) result self.new }
+        ensures { (w : List ℕ) (s : State) → Holds w self.old at byte s.mode s.top s.below
+            → Answers w at (step s byte) result self.new }
     {
         match self.mode {
             Mode::First => self.first(at, byte),
@@ -78,7 +79,8 @@ impl<'a> Reader<'a> {
     /// The byte is at the first part, or closes the bracket.
     fn first(&mut self, at: usize, byte: u8) -> Result<(), JsonFault>
         requires { at < length self.old.bytes.now }
-        ensures { IsMode self.old.mode first → (w : List ℕ) (f : Frame) (fs : List Frame) → Stays w self.old at byte f fs → Answers w at (step_in first byte f fs) result self.new }
+        ensures { IsMode self.old.mode first → (w : List ℕ) (f : Frame) (fs : List Frame)
+            → Stays w self.old at byte f fs → Answers w at (step_in first byte f fs) result self.new }
     {
         if is_space(byte) {
             Ok(())
@@ -91,7 +93,8 @@ impl<'a> Reader<'a> {
 
     /// The byte is at a part.
     fn next(&mut self, at: usize, byte: u8) -> Result<(), JsonFault>
-        ensures { IsMode self.old.mode next → (w : List ℕ) (f : Frame) (fs : List Frame) → Stays w self.old at byte f fs → Answers w at (step_in next byte f fs) result self.new }
+        ensures { IsMode self.old.mode next → (w : List ℕ) (f : Frame) (fs : List Frame)
+            → Stays w self.old at byte f fs → Answers w at (step_in next byte f fs) result self.new }
     {
         if is_space(byte) {
             Ok(())
@@ -103,7 +106,8 @@ impl<'a> Reader<'a> {
     /// The byte is behind a part.
     fn after(&mut self, at: usize, byte: u8) -> Result<(), JsonFault>
         requires { at < length self.old.bytes.now }
-        ensures { IsMode self.old.mode after → (w : List ℕ) (f : Frame) (fs : List Frame) → Stays w self.old at byte f fs → Answers w at (step_after byte f fs) result self.new }
+        ensures { IsMode self.old.mode after → (w : List ℕ) (f : Frame) (fs : List Frame)
+            → Stays w self.old at byte f fs → Answers w at (step_after byte f fs) result self.new }
     {
         if is_space(byte) {
             Ok(())
@@ -119,7 +123,8 @@ impl<'a> Reader<'a> {
 
     fn close(&mut self, at: usize) -> Result<(), JsonFault>
         requires { at < length self.old.bytes.now }
-        ensures { (w : List ℕ) (byte : ℕ) (f : Frame) (fs : List Frame) → Stays w self.old at byte f fs → Answers w at (close byte f fs) result self.new }
+        ensures { (w : List ℕ) (byte : ℕ) (f : Frame) (fs : List Frame)
+            → Stays w self.old at byte f fs → Answers w at (close byte f fs) result self.new }
     {
         if !self.builder.close(at + 1)? {
             return Err(not_json(at));
@@ -130,7 +135,8 @@ impl<'a> Reader<'a> {
 
     /// The byte begins a part.
     fn begin(&mut self, at: usize, byte: u8) -> Result<(), JsonFault>
-        ensures { (w : List ℕ) (f : Frame) (fs : List Frame) → Stays w self.old at byte f fs → Answers w at (begin byte f fs) result self.new }
+        ensures { (w : List ℕ) (f : Frame) (fs : List Frame) → Stays w self.old at byte f fs
+            → Answers w at (begin byte f fs) result self.new }
     {
         if byte == b'"' {
             self.begin_token(Mode::Text(Within::Between), at);
@@ -143,7 +149,8 @@ impl<'a> Reader<'a> {
     }
 
     fn begin_value(&mut self, at: usize, byte: u8) -> Result<(), JsonFault>
-        ensures { (w : List ℕ) (f : Frame) (fs : List Frame) → Stays w self.old at byte f fs → Answers w at (begin_value byte f fs) result self.new }
+        ensures { (w : List ℕ) (f : Frame) (fs : List Frame) → Stays w self.old at byte f fs
+            → Answers w at (begin_value byte f fs) result self.new }
     {
         if byte == b'[' {
             return self.open(Turn::Element, at);
@@ -166,7 +173,9 @@ impl<'a> Reader<'a> {
     }
 
     fn open(&mut self, turn: Turn, at: usize) -> Result<(), JsonFault>
-        ensures { (w : List ℕ) (byte : ℕ) (f : Frame) (fs : List Frame) → Stays w self.old at byte f fs → Answers w at (Some (open_at (turn_of turn) byte f fs)) result self.new }
+        ensures { (w : List ℕ) (byte : ℕ) (f : Frame) (fs : List Frame)
+            → Stays w self.old at byte f fs
+            → Answers w at (Some (open_at (turn_of turn) byte f fs)) result self.new }
     {
         if self.builder.depth() >= MAX_DEPTH {
             return Err(JsonFault::TooDeep { at: at as u64 });
@@ -192,7 +201,9 @@ impl<'a> Reader<'a> {
     fn text(&mut self, within: Within, at: usize, byte: u8) -> Result<(), JsonFault>
         requires inside { at < length self.old.bytes.now }
         requires mode { self.old.mode ≡ mode.Text within }
-        ensures { (w : List ℕ) (m : State_mode) (f : Frame) (fs : List Frame) → IsMode (mode.Text within) m → Holds w self.old at byte m f fs → Answers w at (step_in m byte f fs) result self.new }
+        ensures { (w : List ℕ) (m : State_mode) (f : Frame) (fs : List Frame)
+            → IsMode (mode.Text within) m → Holds w self.old at byte m f fs
+            → Answers w at (step_in m byte f fs) result self.new }
     {
         match within {
             Within::Between if is_unescaped(byte) => Ok(()),
@@ -203,7 +214,9 @@ impl<'a> Reader<'a> {
 
     /// The byte is no quotation mark that ends the text.
     fn character(&mut self, within: Within, at: usize, byte: u8) -> Result<(), JsonFault>
-        ensures { (w : List ℕ) (m : State_mode) (f : Frame) (fs : List Frame) → (within ≡ inside.Between → byte ≡ 0x22 → ⊥) → IsMode (mode.Text within) m → Holds w self.old at byte m f fs → Answers w at (step_in m byte f fs) result self.new }
+        ensures { (w : List ℕ) (m : State_mode) (f : Frame) (fs : List Frame)
+            → (within ≡ inside.Between → byte ≡ 0x22 → ⊥) → IsMode (mode.Text within) m
+            → Holds w self.old at byte m f fs → Answers w at (step_in m byte f fs) result self.new }
     {
         match within.next(byte) {
             Some(next) => {
@@ -216,7 +229,9 @@ impl<'a> Reader<'a> {
 
     fn number(&mut self, stage: Stage, at: usize, byte: u8) -> Result<(), JsonFault>
         requires { at < length self.old.bytes.now }
-        ensures { (w : List ℕ) (m : State_mode) (f : Frame) (fs : List Frame) → IsMode (mode.Number stage) m → Holds w self.old at byte m f fs → Answers w at (step_in m byte f fs) result self.new }
+        ensures { (w : List ℕ) (m : State_mode) (f : Frame) (fs : List Frame)
+            → IsMode (mode.Number stage) m → Holds w self.old at byte m f fs
+            → Answers w at (step_in m byte f fs) result self.new }
     {
         match stage.next(byte) {
             Some(next) => {
@@ -230,7 +245,9 @@ impl<'a> Reader<'a> {
     /// The number has ended before this byte.
     fn end_number(&mut self, stage: Stage, at: usize, byte: u8) -> Result<(), JsonFault>
         requires { at < length self.old.bytes.now }
-        ensures { (w : List ℕ) (m : State_mode) (f : Frame) (fs : List Frame) → next_stage stage byte ≡ None → IsMode (mode.Number stage) m → Holds w self.old at byte m f fs → Answers w at (step_in m byte f fs) result self.new }
+        ensures { (w : List ℕ) (m : State_mode) (f : Frame) (fs : List Frame)
+            → next_stage stage byte ≡ None → IsMode (mode.Number stage) m
+            → Holds w self.old at byte m f fs → Answers w at (step_in m byte f fs) result self.new }
     {
         if !stage.may_end() {
             return Err(not_json(at));
@@ -241,7 +258,9 @@ impl<'a> Reader<'a> {
 
     fn word(&mut self, word: Word, at: usize, byte: u8) -> Result<(), JsonFault>
         requires { at < length self.old.bytes.now }
-        ensures { (w : List ℕ) (m : State_mode) (f : Frame) (fs : List Frame) → IsMode (mode.Word word) m → Holds w self.old at byte m f fs → Answers w at (step_in m byte f fs) result self.new }
+        ensures { (w : List ℕ) (m : State_mode) (f : Frame) (fs : List Frame)
+            → IsMode (mode.Word word) m → Holds w self.old at byte m f fs
+            → Answers w at (step_in m byte f fs) result self.new }
     {
         if byte != word.first() {
             return Err(not_json(at));
@@ -258,7 +277,9 @@ impl<'a> Reader<'a> {
     /// The tree, where a text may end here.
     pub(crate) fn finish(self) -> Result<Tree<'a>, JsonFault>
         requires { (s : State) × Ends self.bytes.now self s }
-        ensures { (s : State) → Ends self.entry.bytes.now self.entry s → MatchResult result (λ tree. value_of s ≡ Some tree) (λ e. (e ≡ fault.Memory) ⊎ ((e ≡ fault.NotJson (length self.entry.bytes.now)) × (value_of s ≡ None))) }
+        ensures source { IfOk result (λ tree. tree.source ≡ self.entry.bytes.now) }
+        ensures value { (s : State) → Ends self.entry.bytes.now self.entry s
+            → EndsAs (length self.entry.bytes.now) (value_of s) result }
     {
         match self.mode {
             Mode::After => self.into_tree(),
@@ -269,7 +290,10 @@ impl<'a> Reader<'a> {
 
     fn finish_number(mut self, stage: Stage) -> Result<Tree<'a>, JsonFault>
         requires { (s : State) × Ends self.bytes.now self s × IsMode (mode.Number stage) s.mode }
-        ensures { (s : State) → Ends self.entry.bytes.now self.entry s → IsMode (mode.Number stage) s.mode → MatchResult result (λ tree. value_of s ≡ Some tree) (λ e. (e ≡ fault.Memory) ⊎ ((e ≡ fault.NotJson (length self.entry.bytes.now)) × (value_of s ≡ None))) }
+        ensures source { IfOk result (λ tree. tree.source ≡ self.entry.bytes.now) }
+        ensures value { (s : State) → Ends self.entry.bytes.now self.entry s
+            → IsMode (mode.Number stage) s.mode
+            → EndsAs (length self.entry.bytes.now) (value_of s) result }
     {
         let stop = self.bytes.len();
         if !stage.may_end() {
@@ -281,7 +305,9 @@ impl<'a> Reader<'a> {
 
     fn into_tree(self) -> Result<Tree<'a>, JsonFault>
         requires { (f : Frame) × (fs : List Frame) × Closes self.bytes.now self f fs }
-        ensures { (f : Frame) (fs : List Frame) → Closes self.entry.bytes.now self.entry f fs → MatchResult result (λ tree. ended f fs ≡ Some tree) (λ e. (e ≡ fault.NotJson (length self.entry.bytes.now)) × (ended f fs ≡ None)) }
+        ensures source { IfOk result (λ tree. tree.source ≡ self.entry.bytes.now) }
+        ensures value { (f : Frame) (fs : List Frame) → Closes self.entry.bytes.now self.entry f fs
+            → EndsAs (length self.entry.bytes.now) (ended f fs) result }
     {
         if self.builder.depth() > 0 {
             return Err(not_json(self.bytes.len()));

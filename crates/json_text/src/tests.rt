@@ -1,5 +1,7 @@
-use crate::{JsonFault, Kind, Tree, put_text};
-use kinds::Bytes;
+ghost use Rattle.json_text.specs.Nodes.{IsNodeOf};
+
+use crate::{Comparison, JsonFault, Kind, Node, Tree, put_text};
+use lists::Bytes;
 use std::alloc::Global;
 use std::process::Abort;
 use std::test::Fail;
@@ -262,5 +264,104 @@ fn round_trips(rt: HostRuntime) -> Result<(), Fail> {
     ] {
         check_round_trip(&rt, text.as_bytes())?;
     }
+    Ok(())
+}
+
+fn compared(alloc: Global, left: &[u8], right: &[u8]) -> Result<Comparison, Fail> {
+    let left = Tree::read(alloc, left)?;
+    let right = Tree::read(alloc, right)?;
+    Ok(left.compare(left.root(), &right, right.root())?)
+}
+
+#[test]
+fn comparisons(rt: HostRuntime) -> Result<(), Fail> {
+    let rows: [(&[u8], &[u8], Comparison); 20] = [
+        (b"1.50", b"15e-1", Comparison::Equal),
+        (b"-0", b"0", Comparison::Equal),
+        (b"1", b"2", Comparison::Unequal),
+        (b"1e20", b"1", Comparison::OutOfRange),
+        (b"1", b"1e20", Comparison::OutOfRange),
+        (b"1e-19", b"null", Comparison::OutOfRange),
+        (b"\"a\"", b"\"\\u0061\"", Comparison::Equal),
+        (b"\"1\"", b"1", Comparison::Unequal),
+        (b"null", b"false", Comparison::Unequal),
+        (b"[1,2]", b" [1.0 , 2]", Comparison::Equal),
+        (b"[1]", b"[1,1]", Comparison::Unequal),
+        (b"[1,[2]]", b"[[1],2]", Comparison::Unequal),
+        (b"[[]]", b"[]", Comparison::Unequal),
+        (b"[]", b"{}", Comparison::Unequal),
+        (
+            b"{\"a\":1,\"b\":2}",
+            b"{\"b\":2,\"\\u0061\":1}",
+            Comparison::Equal,
+        ),
+        (b"{\"a\":1}", b"{\"b\":1}", Comparison::Unequal),
+        (b"{\"a\":1,\"a\":2}", b"{\"a\":2}", Comparison::Equal),
+        (b"{\"a\":1,\"a\":2}", b"{\"a\":1}", Comparison::Unequal),
+        (b"{\"a\":1e20,\"a\":2}", b"{\"a\":2}", Comparison::Equal),
+        (
+            b"{\"a\":[{\"b\":1e20}]}",
+            b"{\"a\":2}",
+            Comparison::OutOfRange,
+        ),
+    ];
+    for (left, right, expected) in rows {
+        assert_eq!(&rt; compared(rt.alloc(), left, right)?, expected);
+    }
+    Ok(())
+}
+
+/// Where the k-th item or member's value begins.
+fn start_of(tree: &Tree<'_>, k: usize) -> Option<usize> {
+    Some(tree.start(tree.item(tree.root(), k)?))
+}
+
+#[test]
+fn starts(rt: HostRuntime) -> Result<(), Fail> {
+    let rows: [(&[u8], usize, Option<usize>); 6] = [
+        (b"[1,1]", 0, Some(1)),
+        (b"[1,1]", 1, Some(3)),
+        (b" [ [1 ,1], 1 ,\t1]", 2, Some(15)),
+        (b"{\"1\" : 1, \"1\":1}", 0, Some(7)),
+        (b"{\"1\" : 1, \"1\":1}", 1, Some(14)),
+        (b"[]", 0, None),
+    ];
+    for (text, k, expected) in rows {
+        let tree = Tree::read(rt.alloc(), text)?;
+        assert_eq!(&rt; start_of(&tree, k), expected);
+    }
+    let tree = Tree::read(rt.alloc(), b"\r\n 1")?;
+    assert_eq!(&rt; tree.start(tree.root()), 3);
+    assert_eq!(&rt; units_of_root(&tree), Some(1_000_000_000_000_000_000));
+    Ok(())
+}
+
+fn units_of_root(tree: &Tree<'_>) -> Option<i128> {
+    let root = tree.root();
+    if tree.kind(root) == Kind::Number {
+        tree.units(root)
+    } else {
+        None
+    }
+}
+
+/// How many bytes the values take of the members of this name.
+fn bytes_of(tree: &Tree<'_>, node: Node, text: &[u8]) -> usize
+    requires { IsNodeOf tree.now node }
+{
+    let mut bytes: usize = 0;
+    for (name, value) in tree.members(node) {
+        if tree.is_text(name, text) {
+            bytes = bytes.saturating_add(tree.slice(value).len());
+        }
+    }
+    bytes
+}
+
+#[test]
+fn members_in_order(rt: HostRuntime) -> Result<(), Fail> {
+    let tree = Tree::read(rt.alloc(), b"{\"a\":10,\"b\":200,\"\\u0061\":[]}")?;
+    assert_eq!(&rt; bytes_of(&tree, tree.root(), b"a"), 4);
+    assert_eq!(&rt; bytes_of(&tree, tree.root(), b"c"), 0);
     Ok(())
 }

@@ -4,7 +4,7 @@ ghost use Rattle.json_text.specs.Grammar as json;
 ghost use Rattle.json_text.specs.Splitting.{SplitsFrom, SplitsAfter, Strips, piece_bytes};
 ghost use Rattle.json_text.specs.Text.{IsBegun, text_from, none, backslash, unit, low_unit, inside, text_of, unescaped, quoted, escaped, escaped_byte, hex_value, hex_digit, code_unit, is_high_surrogate, surrogate_pair, short_meaning, character_bytes};
 
-use kinds::{Bytes, Memory};
+use lists::{Bytes, Memory};
 use std::alloc::Global;
 
 /// A piece of a text: a byte, or a character by its code.
@@ -207,7 +207,8 @@ fn strip(text: &[u8], piece: Piece) -> Option<&[u8]>
 pub fn put_text(out: &mut Bytes, text: &[u8]) -> Result<(), Memory>
     ensures ok { OnOk result (out.new ≡ out.old ++ quoted text.now) }
     ensures err { OnErr result (IsBegun out.old (quoted text.now) out.new) }
-    ensures reads_back { IsUtf8 text.now → IsJson (quoted text.now) (json.text (quoted text.now)) × (text_of (json.text (quoted text.now)) ≡ text.now) }
+    ensures reads_back { IsUtf8 text.now → IsJson (quoted text.now) (json.text (quoted text.now))
+        × (text_of (json.text (quoted text.now)) ≡ text.now) }
 {
     out.push(b'"')?;
     for byte in text {

@@ -1,14 +1,16 @@
 ghost use Rattle.std.specs.Prelude.{◌≡◌, ◌≤◌, Some, if◌then◌else◌, length, slice_range};
+ghost use Rattle.json_text.specs.Same.{known};
 
 use crate::entry::Entry;
 use crate::reader::Reader;
 use crate::text::{stands_for, unescaped};
-use crate::{ItemNodes, JsonFault, Kind};
-use kinds::Bytes;
+use crate::{ItemNodes, JsonFault, Kind, MemberNodes};
+use lists::{Bytes, Memory};
 use std::alloc::Global;
 use std::marker::Model;
+use text_num::{NumFault, read_units};
 
-/// A JSON text as a tree over its source. Contracts see it as the value that the text spells.
+/// A JSON text as a tree over its source. Contracts see the source and the value that it spells.
 #[derive(Drop)]
 pub struct Tree<'a> {
     pub(crate) bytes: &'a [u8],
@@ -16,16 +18,24 @@ pub struct Tree<'a> {
 }
 
 impl<'a> Model for Tree<'a> {
-    ghost use Rattle.json_text.specs.Grammar.{Json};
-    ghost use Rattle.json_text.specs.Trees.{json_code, tree_of, IsTree};
+    ghost use Rattle.json_text.specs.Nodes.{Document};
+    ghost use Rattle.json_text.specs.Trees.{document_code, document_of, IsTree};
 
-    ghost Value = { Json };
+    ghost Value = { Document };
 
-    ghost coded = { json_code };
+    ghost coded = { document_code };
 
-    ghost view = { λ t. tree_of t.bytes.now t.nodes.items };
+    ghost view = { λ t. document_of t.bytes.now t.nodes.items };
 
     ghost invariant = { λ t. IsTree t.bytes.now t.nodes.items };
+}
+
+/// What a node is: its kind, how many parts it has, and the index behind them.
+#[derive(Clone, Copy)]
+struct Spot {
+    kind: Kind,
+    count: usize,
+    next: usize,
 }
 
 /// A node of a tree. Contracts see it as its place among the nodes.
@@ -57,19 +67,23 @@ impl Node {
 impl<'a> Tree<'a> {
     ghost use Rattle.std.specs.Prelude.{◌≡◌, ◌+◌, ◌⊎◌, ◌<◌, IfOk, IfErr, MatchOption, MatchResult, Ok, Err, Some, None, length, map, slice_get};
     ghost use Rattle.json_text.specs.Grammar.{IsJson, spelling};
-    ghost use Rattle.json_text.specs.Text.{last_named, member_of, text_of};
+    ghost use Rattle.json_text.specs.Text.{has_text, last_named, member_of, text_of};
+    ghost use Rattle.json_text.specs.Same.{units_at};
     ghost use Rattle.json_text.specs.Texts.{read_text};
     ghost use Rattle.json_text.specs.declared.fault.JsonFault.TheVariants as fault;
     ghost use Rattle.json_text.specs.declared.kind.Kind.TheVariants as kind;
     ghost use Rattle.json_text.specs.Places.{IsFaultOf};
-    ghost use Rattle.json_text.specs.Nodes.{IsNodeOf, nodes, value_at, kind_of, len_of, item_of, items_of, key_of, parts_of};
+    ghost use Rattle.json_text.specs.Nodes.{AreNodesOf, IsFound, IsNodeOf, behind, item_nodes, item_of, items_of, key_of, kind_of, len_of, member_nodes, members_of, parts_of, value_at, values_at};
     ghost use Rattle.std.specs.List.{AllByRecursion};
 
     /// Reads a JSON text (RFC 8259) in UTF-8, without lone surrogates and with at most 64 open brackets.
     /// A fault has the first place where no text goes on so. The time is linear in the bytes.
     pub fn read(alloc: Global, bytes: &'a [u8]) -> Result<Self, JsonFault>
-        ensures grammar { MatchResult result (λ tree. IsJson bytes.now tree) (λ fault. IsFaultOf fault bytes.now) }
-        ensures decided { MatchResult result (λ tree. read_text bytes.now ≡ Ok tree) (λ e. (e ≡ fault.Memory) ⊎ (read_text bytes.now ≡ Err e)) }
+        ensures source { IfOk result (λ tree. tree.source ≡ bytes.now) }
+        ensures grammar { MatchResult result (λ tree. IsJson bytes.now tree.value)
+            (λ e. IsFaultOf e bytes.now) }
+        ensures decided { MatchResult result (λ tree. read_text bytes.now ≡ Ok tree.value)
+            (λ e. (e ≡ fault.Memory) ⊎ (read_text bytes.now ≡ Err e)) }
     {
         let mut reader = Reader::new(alloc, bytes);
         for (at, byte) in bytes.iter().enumerate() {
@@ -81,11 +95,12 @@ impl<'a> Tree<'a> {
     /// The value of the whole text.
     pub fn root(&self) -> Node
         ensures node { IsNodeOf self.now result }
-        ensures value { value_at self.now result ≡ self.now }
+        ensures value { value_at self.now result ≡ self.now.value }
     {
         Node { index: 0 }
     }
 
+    /// What the value at a node is. Takes no memory.
     pub fn kind(&self, node: Node) -> Kind
         requires { IsNodeOf self.now node }
         ensures { result ≡ kind_of (value_at self.now node) }
@@ -109,7 +124,7 @@ impl<'a> Tree<'a> {
     /// The k-th item of a list, or the value of the k-th member of an object, from 0.
     pub fn item(&self, node: Node, k: usize) -> Option<Node>
         requires { IsNodeOf self.now node }
-        ensures { MatchOption result (item_of (value_at self.now node) k ≡ None) (λ m. IsNodeOf self.now m × (item_of (value_at self.now node) k ≡ Some (value_at self.now m))) }
+        ensures { IsFound self.now (item_of (value_at self.now node) k) result }
     {
         let entry = self.entry(node.index);
         match entry.kind {
@@ -123,7 +138,8 @@ impl<'a> Tree<'a> {
     /// time, where `item` takes as many steps as there are items before.
     pub fn items(&self, node: Node) -> ItemNodes<'_, 'a>
         requires { IsNodeOf self.now node }
-        ensures nodes { AllByRecursion (IsNodeOf self.now) result }
+        ensures nodes { result ≡ item_nodes self.now node }
+        ensures there { AllByRecursion (IsNodeOf self.now) result }
         ensures values { map (value_at self.now) result ≡ items_of (value_at self.now node) }
     {
         let count = self.item_count(node);
@@ -142,10 +158,34 @@ impl<'a> Tree<'a> {
         }
     }
 
+    /// The members of an object in order, each by the nodes of its name and its value, and none of the
+    /// other kinds. To go on to the next takes constant time.
+    pub fn members(&self, node: Node) -> MemberNodes<'_, 'a>
+        requires { IsNodeOf self.now node }
+        ensures nodes { result ≡ member_nodes self.now node }
+        ensures there { AllByRecursion (AreNodesOf self.now) result }
+        ensures values { map (values_at self.now) result ≡ members_of (value_at self.now node) }
+    {
+        let count = self.member_count(node);
+        MemberNodes::new(self, node.index + 1, count)
+    }
+
+    fn member_count(&self, node: Node) -> usize
+        requires { IsNodeOf self.now node }
+        ensures count { result ≡ length (members_of (value_at self.now node)) }
+        ensures fits { node + 1 < 18446744073709551616 }
+    {
+        let entry = self.entry(node.index);
+        match entry.kind {
+            Kind::Object => entry.count / 2,
+            _ => 0,
+        }
+    }
+
     /// The name of the k-th member of an object, from 0: a text.
     pub fn key(&self, node: Node, k: usize) -> Option<Node>
         requires { IsNodeOf self.now node }
-        ensures { MatchOption result (key_of (value_at self.now node) k ≡ None) (λ m. IsNodeOf self.now m × (key_of (value_at self.now node) k ≡ Some (value_at self.now m))) }
+        ensures { IsFound self.now (key_of (value_at self.now node) k) result }
     {
         let entry = self.entry(node.index);
         match entry.kind {
@@ -158,7 +198,7 @@ impl<'a> Tree<'a> {
     /// kinds. Takes no memory.
     pub fn member(&self, node: Node, name: &[u8]) -> Option<Node>
         requires { IsNodeOf self.now node }
-        ensures { MatchOption result (member_of (value_at self.now node) name.now ≡ None) (λ m. IsNodeOf self.now m × (member_of (value_at self.now node) name.now ≡ Some (value_at self.now m))) }
+        ensures { IsFound self.now (member_of (value_at self.now node) name.now) result }
     {
         if self.kind(node) == Kind::Object {
             self.last_named(node, name)
@@ -169,7 +209,7 @@ impl<'a> Tree<'a> {
 
     fn last_named(&self, node: Node, name: &[u8]) -> Option<Node>
         requires { IsNodeOf self.now node }
-        ensures { MatchOption result (last_named name.now (parts_of (value_at self.now node)) ≡ None) (λ m. IsNodeOf self.now m × (last_named name.now (parts_of (value_at self.now node)) ≡ Some (value_at self.now m))) }
+        ensures { IsFound self.now (last_named name.now (parts_of (value_at self.now node))) result }
     {
         let count = self.entry(node.index).count / 2;
         let mut found = None;
@@ -192,13 +232,30 @@ impl<'a> Tree<'a> {
     }
 
     /// The unescaped text of a string.
-    pub fn text_of(&self, node: Node) -> Result<Bytes, JsonFault>
+    pub fn text_of(&self, node: Node) -> Result<Bytes, Memory>
         requires node { IsNodeOf self.now node }
         requires text { kind_of (value_at self.now node) ≡ kind.Text }
-        ensures text { IfOk result (λ text. text ≡ text_of (value_at self.now node)) }
-        ensures err { IfErr result (λ e. e ≡ fault.Memory) }
+        ensures { IfOk result (λ text. text ≡ text_of (value_at self.now node)) }
     {
-        Ok(unescaped(*self.nodes.allocator(), self.spelling(node.index))?)
+        unescaped(*self.nodes.allocator(), self.spelling(node.index))
+    }
+
+    /// Whether a node is a string whose unescaped text is this. Takes no memory.
+    pub fn is_text(&self, node: Node, text: &[u8]) -> bool
+        requires { IsNodeOf self.now node }
+        ensures { result ≡ has_text text.now (value_at self.now node) }
+    {
+        self.kind(node) == Kind::Text && stands_for(self.spelling(node.index), text)
+    }
+
+    /// A number as a multiple of 10^-18, or None where it is no whole multiple or its absolute value
+    /// isn't below 10^20. Takes no memory.
+    pub fn units(&self, node: Node) -> Option<i128>
+        requires node { IsNodeOf self.now node }
+        requires number { kind_of (value_at self.now node) ≡ kind.Number }
+        ensures { result ≡ units_at (value_at self.now node) }
+    {
+        known(read_units(self.spelling(node.index)))
     }
 
     fn spelling(&self, index: usize) -> &'a [u8]
@@ -206,30 +263,47 @@ impl<'a> Tree<'a> {
         ensures { result.now ≡ spelling (value_at self.now index) }
     {
         let entry = self.nodes.as_slice()[index];
-        part_of(self.bytes, entry.start, entry.stop)
+        part_of(self.bytes, entry.start as usize, entry.stop as usize)
+    }
+
+    pub(crate) fn number(&self, node: Node) -> usize
+        ensures { result ≡ node }
+    {
+        node.index
+    }
+
+    pub(crate) fn source(&self) -> &'a [u8]
+        ensures { result.now ≡ self.now.source }
+    {
+        self.bytes
     }
 
     // The number behind all the nodes of this one.
     pub(crate) fn after(&self, node: Node) -> usize
         requires { IsNodeOf self.now node }
-        ensures { result ≡ node + length (nodes (value_at self.now node)) }
+        ensures { result ≡ behind self.now node }
     {
         self.entry(node.index).next
     }
 
-    fn entry(&self, index: usize) -> Entry
+    fn entry(&self, index: usize) -> Spot
         requires { IsNodeOf self.now index }
         ensures kind { result.kind ≡ kind_of (value_at self.now index) }
         ensures count { result.count ≡ length (parts_of (value_at self.now index)) }
-        ensures next { result.next ≡ index + length (nodes (value_at self.now index)) }
+        ensures next { result.next ≡ behind self.now index }
     {
-        self.nodes.as_slice()[index]
+        let entry = self.nodes.as_slice()[index];
+        Spot {
+            kind: entry.kind,
+            count: entry.count as usize,
+            next: entry.next as usize,
+        }
     }
 
     /// The k-th of the values of a list, or of the names and values of an object.
     fn part(&self, node: Node, k: usize) -> Option<Node>
         requires { IsNodeOf self.now node }
-        ensures { MatchOption result (slice_get (parts_of (value_at self.now node)) k ≡ None) (λ m. IsNodeOf self.now m × (slice_get (parts_of (value_at self.now node)) k ≡ Some (value_at self.now m))) }
+        ensures { IsFound self.now (slice_get (parts_of (value_at self.now node)) k) result }
     {
         if k >= self.entry(node.index).count {
             return None;
@@ -246,6 +320,15 @@ fn newer(named: bool, value: Node, found: Option<Node>) -> Option<Node>
     ensures { result ≡ (if named then Some value else found) }
 {
     if named { Some(value) } else { found }
+}
+
+fn known(units: Result<i128, NumFault>) -> Option<i128>
+    ensures { result ≡ known units }
+{
+    match units {
+        Ok(units) => Some(units),
+        Err(_) => None,
+    }
 }
 
 fn part_of(bytes: &[u8], start: usize, stop: usize) -> &[u8]

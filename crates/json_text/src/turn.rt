@@ -2,7 +2,7 @@ ghost use Rattle.std.specs.Prelude.{◌≡◌};
 ghost use Rattle.json_text.specs.Bytes.{is_space};
 ghost use Rattle.json_text.specs.Entries.{turn_of};
 ghost use Rattle.json_text.specs.Grammar.{following, parts_at};
-ghost use Rattle.json_text.specs.Machine.{closes, takes_values};
+ghost use Rattle.json_text.specs.Automaton.{closes, takes_values};
 
 use crate::bracket::Turn;
 

@@ -1,3 +1,2 @@
 pub mod AnswerLemmas
-pub mod Keyed
-pub mod Texts
+pub mod CellLemmas

@@ -20,8 +20,19 @@ abbrev pub at_member : Option ℕ → List ℕ
 at_member None = []
 at_member (Some number) = codes ",\"at\":" ++ decimal number
 
-abbrev pub error_body : ℕ → List ℕ → Option ℕ → List ℕ
-error_body status word at = codes "{\"error\":\"" ++ word ++ codes "\"" ++ at_member at ++ codes ",\"status\":" ++ decimal status ++ codes "}"
+abbrev pub error_begun : List ℕ → List ℕ
+error_begun word = codes "{\"error\":\"" ++ word ++ codes "\""
+
+abbrev pub error_ended : Option ℕ → ℕ → List ℕ
+error_ended at status = at_member at ++ codes ",\"status\":" ++ decimal status ++ codes "}"
 
 abbrev pub error_answer : ℕ → List ℕ → Option ℕ → Out
-error_answer status word at = Answer status (error_body status word at)
+error_answer status word at = Answer status (error_begun word ++ error_ended at status)
+
+-- the function of a registration that is at fault, and its member
+abbrev pub function_member : ℕ → List ℕ → List ℕ
+function_member function member = codes ",\"function\":" ++ decimal function ++ codes ",\"member\":\"" ++ member ++ codes "\""
+
+abbrev pub function_error_answer : ℕ → List ℕ → ℕ → List ℕ → Option ℕ → Out
+function_error_answer status word function member at =
+    Answer status (error_begun word ++ function_member function member ++ error_ended at status)

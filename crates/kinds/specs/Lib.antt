@@ -1,4 +1,11 @@
 pub mod Answer
+pub mod Cells
+pub mod ErrorObject
 pub mod Limits
+pub mod Moments
+pub mod Queue
 pub mod Refusal
+pub mod RunSteps
 pub mod Seen
+pub mod Stores
+pub mod Windows

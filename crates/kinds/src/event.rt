@@ -1,4 +1,4 @@
-use crate::Bytes;
+use lists::Bytes;
 
 /// An event as a request gives it. Each part but the name and the id is the member's own text in the
 /// source, byte for byte; the member `data` is `content`.
@@ -11,4 +11,12 @@ pub struct EventIn {
     pub ts: Option<Bytes>,
     pub user: Option<Bytes>,
     pub v: Option<Bytes>,
+}
+
+/// An event that was accepted: its number, from 1, its name, and the JSON text that it goes on as.
+#[derive(Drop)]
+pub struct Event {
+    pub number: u64,
+    pub name: Bytes,
+    pub text: Bytes,
 }

@@ -1,4 +1,5 @@
-use crate::{EventIn, Items};
+use crate::EventIn;
+use lists::Items;
 
 /// One atomic step of the machine, with the clock reading that it was taken at, in milliseconds
 /// since 1970.

@@ -1,28 +1,41 @@
-//! Plain data that every layer speaks: byte strings, lists and the one answer that is always free.
-//! Stands on std alone, and promises that each list is seen in contracts as the list of its items.
+//! Plain data that every layer speaks: events, functions, cells, entries of the stores, replies, inputs
+//! and answers. Stands on `lists` and `expr`; records of it equal the values of definitions.
 #![tactic(auto)]
 
 mod answer;
-mod bytes;
+mod cell;
 mod event;
+mod function;
 mod input;
-mod items;
 mod limits;
-mod memory;
+mod matcher;
 mod out;
+mod own_error;
 mod refusal;
+mod reply;
 mod seen;
+mod step_hash;
+mod steps;
+mod store;
+mod window;
 
-pub use answer::{error_answer, ids_answer};
-pub use bytes::Bytes;
-pub use event::EventIn;
+pub use answer::{error_answer, function_error_answer, ids_answer};
+pub use cell::{Cell, CellLimit, CellLimits, IssueEntry, StartEntry};
+pub use event::{Event, EventIn};
+pub use function::{App, Batch, CancelEntry, Debounce, Function, Limit, Scope, Throttle, Trigger};
 pub use input::Input;
-pub use items::Items;
 pub use limits::Limits;
-pub use memory::Memory;
+use lists::Items;
+pub use matcher::{Matcher, PathMatcher};
 pub use out::Out;
+pub use own_error::error_object;
 pub use refusal::Refusal;
+pub use reply::{After, Op, Outcome, ReplyIn, Time};
 pub use seen::SeenEntry;
+pub use step_hash::StepHash;
+pub use steps::Steps;
+pub use store::{Bucket, Due, Fired, Item, Pending, Rule, StepEntry, Wait};
+pub use window::{Offered, Window, WindowRule};
 
-#[cfg(test)]
-mod tests;
+/// A list of numbers.
+pub type Numbers = Items<u64>;

@@ -1,4 +1,4 @@
-use crate::Bytes;
+use lists::Bytes;
 
 /// What a step has to say to the outside.
 #[derive(Drop)]

@@ -1,7 +1,8 @@
 ghost use Rattle.std.specs.Prelude.{◌≡◌, IfOk};
 ghost use Rattle.kinds.specs.Refusal.{refusal_answer};
 
-use crate::{Memory, Out, error_answer};
+use crate::{Out, error_answer};
+use lists::Memory;
 use std::alloc::Global;
 
 /// Why the machine turns an input away.

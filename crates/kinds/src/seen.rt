@@ -1,4 +1,4 @@
-use crate::Bytes;
+use lists::Bytes;
 
 /// An event id that was accepted: the event's number, and when it was accepted, in milliseconds
 /// since 1970.

@@ -5,7 +5,8 @@ ghost use Rattle.machine_model.specs.State.{empty, at_moment, moment_at, greates
 ghost use Rattle.machine_model.specs.Machine.{Accepts, count_input, new_event, on_event, on_events, refusal, refusal_of_events, repeats, spent, step};
 
 use intake::Seen;
-use kinds::{EventIn, Input, Items, Limits, Memory, Out, Refusal, ids_answer};
+use kinds::{EventIn, Input, Limits, Out, Refusal, ids_answer};
+use lists::{Items, Memory};
 use std::alloc::Global;
 use std::marker::Model;
 
@@ -28,13 +29,15 @@ pub struct Machine {
 
 impl Model for Machine {
     ghost use Rattle.machine_model.specs.State.{State};
-    ghost use Rattle.machine_model.specs.Sound.{IsSound};
 
     ghost Value = { State };
 
-    ghost view = { λ m. record { limits = m.limits; moment = m.moment; inputs = m.inputs; events = m.events; seen = m.seen } };
+    ghost use Rattle.machine_model.specs.Sound.{IsSound};
+    ghost use Rattle.machine.specs.View.{state_of};
 
-    ghost invariant = { λ m. IsSound (record { limits = m.limits; moment = m.moment; inputs = m.inputs; events = m.events; seen = m.seen }) };
+    ghost view = { state_of };
+
+    ghost invariant = { λ m. IsSound (state_of m) };
 }
 
 impl Machine {
@@ -116,7 +119,7 @@ impl Machine {
     /// spends the machine.
     pub fn step(self, input: Input) -> Result<(Self, Items<Out>), Memory>
         requires { Accepts self input }
-        ensures { IfOk result (λ turn. (turn.0 ≡ (step self input).state) × (turn.1 ≡ (step self input).outs)) }
+        ensures { IfOk result (λ stepped. (stepped.0 ≡ (step self input).state) × (stepped.1 ≡ (step self input).outs)) }
     {
         match input {
             Input::Events { at, events } => self.take_events(at, events.as_slice()),
@@ -127,7 +130,7 @@ impl Machine {
     #[tactic(auto, unfolding(machine_model::specs::Machine::act))]
     fn take_events(mut self, at: u64, events: &[EventIn]) -> Result<(Self, Items<Out>), Memory>
         requires { greatest self < spent }
-        ensures { IfOk result (λ turn. (turn.0 ≡ (step self (Events at events.now)).state) × (turn.1 ≡ (step self (Events at events.now)).outs)) }
+        ensures { IfOk result (λ stepped. (stepped.0 ≡ (step self (Events at events.now)).state) × (stepped.1 ≡ (step self (Events at events.now)).outs)) }
     {
         self.advance(at);
         self.count_input();

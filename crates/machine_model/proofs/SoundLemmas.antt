@@ -6,11 +6,13 @@ use Rattle.kinds.specs.declared.event.EventIn.{EventIn}
 use Rattle.kinds.specs.declared.input.Input.{Input}
 use Rattle.kinds.specs.declared.input.Input.TheVariants.{Events}
 use Rattle.kinds.specs.declared.limits.Limits.{Limits}
+use Rattle.kinds.specs.Moments.{last_moment}
 use Rattle.kinds.specs.declared.seen.SeenEntry.{SeenEntry}
-use Rattle.machine_model.specs.Machine.{Taking, act, count_input, note_id, on_event, on_events, reading, repeats, state_after, step, take_event}
-use Rattle.machine_model.specs.Sound.{AreApart, IsEntry, IsSound}
-use Rattle.machine_model.specs.State.{State, at_moment, empty, last_moment, moment_at}
-use Rattle.machine_model.proofs.SeenLemmas.{all-both, all-filter, all-last, all-weaker, apart-filter, apart-last, filter-passes, insert-above, other-id}
+use Rattle.machine_model.specs.Machine.{Answering, act, count_input, note_id, on_event, on_events, reading, repeats, state_after, step, answer_event}
+use Rattle.machine_model.specs.Sound.{AreInOrder, IsEntry, IsSound}
+use Rattle.machine_model.specs.State.{State, at_moment, empty, moment_at}
+use Rattle.lists.proofs.Elements.{all-both, all-filter, all-last, all-weaker, filter-passes}
+use Rattle.machine_model.proofs.SeenLemmas.{apart-filter, apart-last, insert-above, other-id}
 
 pub sound-empty : (limits : Limits) → IsSound (empty limits)
 sound-empty limits = record { moment = omega arith; entries = tt; apart = tt }
@@ -45,21 +47,21 @@ sound-after_new (Some id) s sound =
     let below : AllByRecursion (λ (e : SeenEntry). e.number < entry.number) others = all-weaker _ _ others (λ (e : SeenEntry) (h : IsEntry s.events s.moment e). omega (arith, h.numbered)) kept in
     let last : insert_seen entry others ≡ others ++ entry ∷ [] = insert-above entry others below in
     let now : IsEntry (s.events + 1) s.moment entry = record { numbered = omega arith; dated = omega arith; remembered = grind arith } in
-    let apart : AreApart (others ++ entry ∷ []) = apart-last entry others (apart-filter _ s.seen sound.apart) (all-both _ _ _ others (λ (e : SeenEntry) (h : e.number < entry.number) (k : not (has_id id e) ≡ true). (h, other-id id e k)) below differ) in
+    let apart : AreInOrder (others ++ entry ∷ []) = apart-last entry others (apart-filter _ s.seen sound.apart) (all-both _ _ _ others (λ (e : SeenEntry) (h : e.number < entry.number) (k : not (has_id id e) ≡ true). (h, other-id id e k)) below differ) in
     record {
       moment = sound.moment;
       entries = rw last (all-last _ others entry (all-weaker _ _ others (more_numbered s) kept) now);
       apart = rw last apart;
     }
 
-pub sound-on_event : (event : EventIn) (taking : Taking) → IsSound taking.state → IsSound (on_event event taking).state
-sound-on_event event taking sound =
-    elim (repeats event taking.state) as (λ found. IsSound (take_event event found taking).state) [ Some number ↦ sound | None ↦ sound-after_new event.id taking.state sound ]
+pub sound-on_event : (event : EventIn) (answering : Answering) → IsSound answering.state → IsSound (on_event event answering).state
+sound-on_event event answering sound =
+    elim (repeats event answering.state) as (λ found. IsSound (answer_event event found answering).state) [ Some number ↦ sound | None ↦ sound-after_new event.id answering.state sound ]
 
-pub sound-on_events : (events : List EventIn) (taking : Taking) → IsSound taking.state → IsSound (on_events events taking).state
+pub sound-on_events : (events : List EventIn) (answering : Answering) → IsSound answering.state → IsSound (on_events events answering).state
 unfolding on_events
-sound-on_events [] taking sound = sound
-sound-on_events (event ∷ events) taking sound = sound-on_events events (on_event event taking) (sound-on_event event taking sound)
+sound-on_events [] answering sound = sound
+sound-on_events (event ∷ events) answering sound = sound-on_events events (on_event event answering) (sound-on_event event answering sound)
 
 -- the state in which an input acts
 pub sound-before_act : (s : State) (input : Input) → IsSound s → IsSound (count_input (at_moment (moment_at (reading input) s) s))

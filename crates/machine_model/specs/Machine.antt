@@ -16,7 +16,7 @@ use Rattle.machine_model.specs.State.{State, empty, moment_at, at_moment, greate
 -- ## The events of a request
 
 -- a state in the midst of a request's events, and the numbers that the events before are answered with
-pub record Taking : Type 0 where
+pub record Answering : Type 0 where
   pub state : State
   pub numbers : List ℕ
 
@@ -34,29 +34,29 @@ abbrev pub new_event : EventIn → State → State
 new_event event s = record s { events = s.events + 1; seen = note_id event.id (s.events + 1) s }
 
 -- A repeated event is answered with the number of the first, and changes nothing.
-abbrev pub take_event : EventIn → Option ℕ → Taking → Taking
-take_event event (Some number) taking = record taking { numbers = taking.numbers ++ number ∷ [] }
-take_event event None taking = record { state = new_event event taking.state; numbers = taking.numbers ++ (taking.state.events + 1) ∷ [] }
+abbrev pub answer_event : EventIn → Option ℕ → Answering → Answering
+answer_event event (Some number) answering = record answering { numbers = answering.numbers ++ number ∷ [] }
+answer_event event None answering = record { state = new_event event answering.state; numbers = answering.numbers ++ (answering.state.events + 1) ∷ [] }
 
-abbrev pub on_event : EventIn → Taking → Taking
-on_event event taking = take_event event (repeats event taking.state) taking
+abbrev pub on_event : EventIn → Answering → Answering
+on_event event answering = answer_event event (repeats event answering.state) answering
 
-unfoldable pub on_events : List EventIn → Taking → Taking
-on_events [] taking = taking
-on_events (event ∷ events) taking = on_events events (on_event event taking)
+unfoldable pub on_events : List EventIn → Answering → Answering
+on_events [] answering = answering
+on_events (event ∷ events) answering = on_events events (on_event event answering)
 
 -- ## One step
 
 -- a state with what was said on the way to it, in order
-pub record Turn : Type 0 where
+pub record Stepped : Type 0 where
   pub state : State
   pub outs : List Out
 
-abbrev pub answered : Taking → Turn
-answered taking = record { state = taking.state; outs = ids_answer taking.numbers ∷ [] }
+abbrev pub answered : Answering → Stepped
+answered answering = record { state = answering.state; outs = ids_answer answering.numbers ∷ [] }
 
 -- an input acts on the state at its moment
-unfoldable pub act : Input → State → Turn
+unfoldable pub act : Input → State → Stepped
 act (Events at events) s = answered (on_events events (record { state = s; numbers = [] }))
 
 abbrev pub reading : Input → ℕ
@@ -66,7 +66,7 @@ abbrev pub count_input : State → State
 count_input s = record s { inputs = s.inputs + 1 }
 
 -- Time goes on to the input's moment, and then it acts.
-abbrev pub step : State → Input → Turn
+abbrev pub step : State → Input → Stepped
 step s input = act input (count_input (at_moment (moment_at (reading input) s) s))
 
 -- ## What is refused

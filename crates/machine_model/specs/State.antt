@@ -1,5 +1,6 @@
 -- The state of the documented machine: plain lists in order of making, and the counts of what was named.
 use Rattle.std.specs.Prelude.{ℕ, List, [], min, max}
+use Rattle.kinds.specs.Moments.{last_moment}
 use Rattle.kinds.specs.declared.limits.Limits.{Limits}
 use Rattle.kinds.specs.declared.seen.SeenEntry.{SeenEntry}
 use Rattle.kinds.specs.Seen.{remembered, weight_of}
@@ -19,10 +20,6 @@ pub record State : Type 0 where
 -- the state before the first input
 abbrev pub empty : Limits → State
 empty limits = record { limits = limits; moment = 0; inputs = 0; events = 0; seen = [] }
-
--- The last millisecond of the year 9999. A clock reading above it counts as this moment.
-abbrev pub last_moment : ℕ
-last_moment = 253402300799999
 
 -- the moment of an input with this clock reading
 abbrev pub moment_at : ℕ → State → ℕ

@@ -1,4 +1,4 @@
-use rig::{ReadFailed, Sink, Source, WriteFailed};
+use rig::{ReadFailed, Sink, Source, WriteFailed, next_count};
 use std::io::{Read, Write};
 
 /// Standard input, or another reader. It tells nothing of its bytes, and counts each failed read.
@@ -9,6 +9,7 @@ pub struct HostSource<R: Read> {
 }
 
 impl<R: Read> HostSource<R> {
+    /// A source that has read nothing yet.
     pub fn new(reader: R) -> Self {
         HostSource { reader, faults: 0 }
     }
@@ -17,15 +18,13 @@ impl<R: Read> HostSource<R> {
 impl<R: Read> Source for HostSource<R> {
     ghost use Rattle.std.specs.Prelude.{None};
 
-    ghost flow = { λ _. None };
-
-    ghost faults = { λ s. s.faults };
+    ghost incoming = { λ s. record { flow = None; faults = s.faults } };
 
     fn read(&mut self, buf: &mut [u8]) -> Result<usize, ReadFailed> {
         match self.reader.read(buf) {
             Ok(count) => Ok(count),
             Err(_) => {
-                self.faults = self.faults.saturating_add(1);
+                self.faults = next_count(self.faults);
                 Err(ReadFailed)
             }
         }
@@ -40,6 +39,7 @@ pub struct HostSink<W: Write> {
 }
 
 impl<W: Write> HostSink<W> {
+    /// A sink that has written nothing yet.
     pub fn new(writer: W) -> Self {
         HostSink { writer, faults: 0 }
     }
@@ -48,15 +48,13 @@ impl<W: Write> HostSink<W> {
 impl<W: Write> Sink for HostSink<W> {
     ghost use Rattle.std.specs.Prelude.{None};
 
-    ghost written = { λ _. None };
-
-    ghost faults = { λ s. s.faults };
+    ghost outgoing = { λ s. record { written = None; faults = s.faults } };
 
     fn write(&mut self, bytes: &[u8]) -> Result<(), WriteFailed> {
         match self.writer.write_all(bytes) {
             Ok(()) => Ok(()),
             Err(_) => {
-                self.faults = self.faults.saturating_add(1);
+                self.faults = next_count(self.faults);
                 Err(WriteFailed)
             }
         }

@@ -1,9 +1,10 @@
 mod AcceptedLemmas
 mod AcceptedRows
-mod FaultLemmas
-mod KeptLemmas
 mod LineLemmas
 mod LogLemmas
+mod LogRun
+mod LoggedLemmas
 mod PiecesLemmas
+mod ReaderLemmas
 mod ReplayLemmas
 mod RunLemmas

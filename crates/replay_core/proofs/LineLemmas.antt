@@ -6,9 +6,10 @@ use Rattle.kinds.specs.declared.input.Input.{Input}
 use Rattle.replay_core.specs.Line.{read_line}
 use Rattle.replay_core.specs.Pieces.{line_feed, text_of_line, text_up_to}
 use Rattle.replay_core.specs.declared.line.Line.TheVariants as line
+use Rattle.requests.specs.declared.requested.Requested.TheVariants as requested
 
 -- an input's line isn't empty
-pub input-some : (text : List ℕ) (input : Input) → read_line text ≡ Some (line.Input input) → 0 < length text
+pub input-some : (text : List ℕ) (input : Input) → read_line text ≡ Some (line.Asks (requested.Input input)) → 0 < length text
 unfolding read_line
 input-some [] input is = cc
 input-some (byte ∷ bytes) input is = omega arith

@@ -8,7 +8,7 @@ use Rattle.rig.specs.MemoryRig.{IsSteady, MemoryRig, disk_of, moment_of, rig_tel
 use Rattle.rig.specs.Told.{GoesOn, Moment, StillTells, WhereTold, reads_of}
 use Rattle.rig.specs.declared.side.Side.TheVariants.{A}
 use Rattle.rig.proofs.MemoryMoments.{took_place}
-use Rattle.replay_core.specs.Kept.{IsBlank, IsLogging, Logs, payloads_in}
+use Rattle.replay_core.specs.Log.{IsBlank, IsLogging, Logs, payloads_in}
 
 -- what is told of the present, of a rig that tells
 now-told : (rig : MemoryRig) (P : Moment → Type 0) → (rig.telling ≡ true) × IsSoundDisk (disk_of rig) → WhereTold rig_tells rig P → P (moment_of rig)
@@ -82,3 +82,11 @@ append-failed {T = T} old new end payload error log still goes =
     either : IsBeforeOrAfter payload old.a.bytes new.a.bytes → StandsFor (payloads_in old) new.a.bytes ⊎ StandsFor (payloads_in old ++ payload ∷ []) new.a.bytes
     either (inl same) = inl same.1
     either (inr more) = inr more.1
+
+-- ## What file A stands for
+
+pub logging-stands : (size : ℕ) (rig : MemoryRig) → IsLogging size rig → StandsFor (payloads_in rig) rig.a.bytes
+logging-stands size rig log = ap (λ rest. record { payloads = payloads_in rig; rest = rest }) log.ready.whole
+
+pub logs-stands : (before added : List (List ℕ)) (size : ℕ) (rig : MemoryRig) → Logs before added size rig → StandsFor (before ++ added) rig.a.bytes
+logs-stands before added size rig log = subst (λ (payloads : List (List ℕ)). StandsFor payloads rig.a.bytes) log.payloads (logging-stands size rig log.logging)

@@ -4,7 +4,7 @@ use Rattle.std.specs.List.{AllByRecursion, position, position_or_len}
 use Rattle.std.proofs.lemmas.Bool.{cases_lt}
 use Rattle.std.proofs.lemmas.List.{take-append-drop}
 use Rattle.std.proofs.lemmas.Option.{cond_some}
-use Rattle.replay_core.specs.Pieces.{Lines, all_lines, begin_line, last_line, line_feed, lines_of}
+use Rattle.replay_core.specs.Pieces.{IsEnded, IsUnended, Lines, all_lines, begin_line, last_line, line_feed, lines_of}
 
 -- the lines of bytes that go on behind such a last line
 abbrev pub go_on : List (List ℕ) → Lines → Lines
@@ -123,6 +123,12 @@ none-past place size h =
 pub open-none : (text : List ℕ) → position (λ byte. byte == line_feed) text ≡ None → IsOpen text
 open-none text h = past text (none-past (position_or_len (λ byte. byte == line_feed) text) (length text) h)
 
+pub place-within : (text : List ℕ) (place : ℕ) → position (λ byte. byte == line_feed) text ≡ Some place → place < length text
+place-within text place h =
+    let found = cond_some (nat_lt (position_or_len (λ byte. byte == line_feed) text) (length text)) _ place h in
+    let within : position_or_len (λ byte. byte == line_feed) text < length text = grind (arith, found.0) in
+    subst (λ (n : ℕ). n < length text) found.1 within
+
 -- the front of a text up to the first byte that ends a line
 pub front-open : (text : List ℕ) (place : ℕ) → position (λ byte. byte == line_feed) text ≡ Some place → EndsAt text place
 front-open text place h =
@@ -141,8 +147,20 @@ front-line pending rest front place open_pending found is =
 pub split-join : (text front behind : List ℕ) (place : ℕ) → front ≡ take place text → behind ≡ drop place text → front ++ behind ≡ text
 split-join text front behind place f b = rw (f, b) (take-append-drop place text)
 
--- what came before, the next piece and the rest
-pub pieces-join : (pending front next behind rest chunk : List ℕ) → front ++ rest ≡ chunk → next ++ behind ≡ rest → ((pending ++ front) ++ next) ++ behind ≡ pending ++ chunk
-pieces-join pending front next behind rest chunk whole parts =
-    append_assoc (pending ++ front) next behind ∙ append_assoc pending front (next ++ behind)
-    ∙ ap (λ text. pending ++ (front ++ text)) parts ∙ ap (λ text. pending ++ text) whole
+-- ## Lines that are whole
+
+-- More bytes go on from bytes of which each line is ended.
+pub lines-whole : (bytes more : List ℕ) → (lines_of bytes).last ≡ [] → lines_of (bytes ++ more) ≡ go_on (lines_of bytes).ended (lines_of more)
+lines-whole bytes more h = lines-append bytes more ∙ ap (λ (last : List ℕ). go_on (lines_of bytes).ended (lines_of (last ++ more))) h
+
+pub all-whole : (bytes more : List ℕ) → (lines_of bytes).last ≡ [] → all_lines (lines_of (bytes ++ more)) ≡ (lines_of bytes).ended ++ all_lines (lines_of more)
+all-whole bytes more h = ap all_lines (lines-whole bytes more h) ∙ append_assoc (lines_of bytes).ended (lines_of more).ended (last_line (lines_of more).last)
+
+-- one line, and what follows it
+pub ended-lines : (line more : List ℕ) → IsEnded line → all_lines (lines_of (line ++ more)) ≡ line ∷ all_lines (lines_of more)
+ended-lines line more ended =
+    all-whole line more (ap (λ (lines : Lines). lines.last) ended)
+    ∙ ap (λ (lines : Lines). lines.ended ++ all_lines (lines_of more)) ended
+
+pub unended-open : (line : List ℕ) → IsUnended line → IsOpen line
+unended-open line unended = subst IsOpen (ap (λ (lines : Lines). lines.last) unended) (open-last line)

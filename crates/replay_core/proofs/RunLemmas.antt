@@ -1,351 +1,478 @@
--- The whole run of a script: reading, the last line, and how it ends.
-use Rattle.std.proofs.Common.{◌≡◌, ℕ, ◌+◌, ◌<◌, ◌≤◌, true, List, [], ◌∷◌, ◌++◌, length, take, drop, Option, Some, Result, Ok, Err, inl, inr, refl, ap, ◌∙◌, sym, subst, append_assoc, append-nil, arith, nat_lt, length-append}
-use Rattle.std.proofs.lemmas.List.{take-append-drop, take_all}
-use Rattle.rig.specs.Flow.{Flow, Gives, GivesWhereTold}
-use Rattle.rig.specs.Written.{Adds, AddsPrefix}
-use Rattle.journal_core.specs.Records.{StandsFor}
+-- Where the run of a script stands between two looks for a line, and how it ends.
+use Rattle.std.proofs.Common.{◌≡◌, ℕ, ◌+◌, ◌-◌, ◌*◌, ◌<◌, ◌≤◌, length-append, inl, inr, Bool, true, false, MatchBool, List, [], ◌∷◌, ◌++◌, length, Option, Some, Result, Ok, Err, refl, ap, ◌∙◌, sym, subst, append_assoc, append-nil, arith}
+use Rattle.rig.specs.Faults.{one_more}
+use Rattle.rig.specs.Flow.{Flow, Incoming, after_failed_read}
 use Rattle.rig.specs.MemoryRig.{MemoryRig}
+use Rattle.rig.specs.Written.{Outgoing, FailsWriting, WritesPrefix, after_write}
+use Rattle.rig.proofs.WrittenLemmas.{fails-more, prefix-all, prefix-more, write-fails, write-nothing, write-write}
 use Rattle.replay_core.specs.Accepted.{accepted_line, accepted_lines}
-use Rattle.replay_core.specs.Kept.{IsCutOff, IsCutShort, IsLogging, Keeps, KeepsLines, KeepsTo, KeepsLine, KeepsWithin, Logged, Logs, payloads_in}
-use Rattle.replay_core.specs.Pieces.{all_lines, last_line, lines_of}
-use Rattle.replay_core.specs.Replay.{Outcome, Goes, Stops, Outside, Session, after_text, end_line, finish, on_line, on_lines, start, text_of}
-use Rattle.replay_core.specs.Run.{Breaks, CountsReadFault, Feeds, Finishes, IsRead, Prints, Replays, ReplaysTo, Runs, StopsWithin}
+use Rattle.replay_core.specs.Ends.{end_of, unwritten}
+use Rattle.replay_core.specs.Log.{Logs, payloads_in}
+use Rattle.replay_core.specs.Pieces.{IsEnded, IsUnended, Lines, all_lines, last_line, lines_of}
+use Rattle.replay_core.specs.Reading.{Ahead, IsRead, ReadsOn}
+use Rattle.replay_core.specs.Replay.{Ending, Outcome, Goes, Stops, Outside, Spent, Progress, Transcript, after_text, finish, on_line, on_lines, start, transcript}
+use Rattle.replay_core.specs.Run.{Finishes, Says, transcript_of}
+use Rattle.replay_core.specs.Script.{CountsWrites, Gathered, Gathers, GathersPrefix, HasRun, IsSilentAt, PutsPrefix, Replays, Writes, read_faults, write_faults}
+use Rattle.replay_core.specs.declared.end.LineFault.{LineFault}
+use Rattle.replay_core.specs.declared.end.LineFault.TheVariants as fault
 use Rattle.replay_core.specs.declared.end.ReplayEnd.{ReplayEnd}
 use Rattle.replay_core.specs.declared.end.ReplayEnd.TheVariants.{Done, Script, ReadFault, WriteFault, NumbersSpent, Memory}
-use Rattle.replay_core.proofs.PiecesLemmas.{IsOpen, first-line, lines-open}
-use Rattle.rig.proofs.WrittenLemmas.{adds-adds, adds-adds-prefix, adds-nothing, adds-prefix-more, adds-prefix-nothing}
+use Rattle.replay_core.specs.declared.end.RunFault.TheVariants.{Line}
+use Rattle.replay_core.specs.declared.logged.Logged.{Logged}
 use Rattle.replay_core.proofs.AcceptedLemmas.{accepted-goes, accepted-one}
-use Rattle.replay_core.proofs.KeptLemmas.{accepted-feeds, cut-after, cut-more, cut-nothing, feeds-keeps, keeps-one, lines-behind, logging-stands, logs-logs, logs-stands, stands-after}
-use Rattle.replay_core.proofs.ReplayLemmas.{feeds-feeds, feeds-goes, feeds-open, feeds-start, feeds-stops, on_lines-goes, on_lines-one}
+use Rattle.replay_core.proofs.PiecesLemmas.{all-whole, ended-lines, go_on, lines-whole}
+use Rattle.replay_core.proofs.ReplayLemmas.{finish-after, later, on_lines-goes, on_lines-one, stops-line}
 
--- ## The last line
-
--- the end line, behind what was printed before
-pub prints-finishes : (next : Session) (before : List ℕ) (old mid new : Option (List ℕ)) (result : Result (Unit {0}) ReplayEnd) → Adds old mid before → Prints (end_line next.state) mid new result → Finishes (Goes next before) old new result
-prints-finishes next before old mid new (Ok done) h k = (refl, adds-adds old mid new before (end_line next.state) h k)
-prints-finishes next before old mid new (Err WriteFault) h k = adds-adds-prefix old mid new before (end_line next.state) h k
-prints-finishes next before old mid new (Err Memory) h k = adds-adds-prefix old mid new before (end_line next.state) h k
-prints-finishes next before old mid new (Err Done) h k = k
-prints-finishes next before old mid new (Err (Script line)) h k = absurd k
-prints-finishes next before old mid new (Err ReadFault) h k = k
-prints-finishes next before old mid new (Err NumbersSpent) h k = absurd k
-
--- a prefix of what was printed is one of what is printed in the end
-prefix-finish : (outcome : Outcome) (old new : Option (List ℕ)) → AddsPrefix old new (text_of outcome) → AddsPrefix old new (finish outcome).text
-prefix-finish (Goes session text) old new h = adds-prefix-more old new text (end_line session.state) h
-prefix-finish (Stops ending text) old new h = h
-
--- a run that broke off has no end line
-pub breaks-finishes : (outcome : Outcome) (old new : Option (List ℕ)) (end : ReplayEnd) → Breaks outcome old new end → Finishes outcome old new (Err end)
-breaks-finishes outcome old new (Script line) (text, is, added) = rw is (refl, added)
-breaks-finishes outcome old new NumbersSpent (text, is, added) = rw is (refl, added)
-breaks-finishes outcome old new WriteFault h = prefix-finish outcome old new h
-breaks-finishes outcome old new Memory h = prefix-finish outcome old new h
-breaks-finishes outcome old new Done h = h
-breaks-finishes outcome old new ReadFault h = h
-
-finish-after : (before : List ℕ) (outcome : Outcome) → ((finish (after_text before outcome)).ending ≡ (finish outcome).ending) × ((finish (after_text before outcome)).text ≡ before ++ (finish outcome).text)
-finish-after before (Goes session text) = (refl, append_assoc before text (end_line session.state))
-finish-after before (Stops ending text) = (refl, refl)
-
--- What was printed before a run counts to it.
-pub finishes-after : (outcome : Outcome) (before : List ℕ) (old mid new : Option (List ℕ)) (result : Result (Unit {0}) ReplayEnd) → Adds old mid before → Finishes outcome mid new result → Finishes (after_text before outcome) old new result
-finishes-after outcome before old mid new (Ok done) h (is, added) = ((finish-after before outcome).0 ∙ is, rw (finish-after before outcome).1 (adds-adds old mid new before (finish outcome).text h added))
-finishes-after outcome before old mid new (Err (Script line)) h (is, added) = ((finish-after before outcome).0 ∙ is, rw (finish-after before outcome).1 (adds-adds old mid new before (finish outcome).text h added))
-finishes-after outcome before old mid new (Err NumbersSpent) h (is, added) = ((finish-after before outcome).0 ∙ is, rw (finish-after before outcome).1 (adds-adds old mid new before (finish outcome).text h added))
-finishes-after outcome before old mid new (Err WriteFault) h k = rw (finish-after before outcome).1 (adds-adds-prefix old mid new before (finish outcome).text h k)
-finishes-after outcome before old mid new (Err Memory) h k = rw (finish-after before outcome).1 (adds-adds-prefix old mid new before (finish outcome).text h k)
-finishes-after outcome before old mid new (Err Done) h k = k
-finishes-after outcome before old mid new (Err ReadFault) h k = k
-
--- nothing is pending
-pub none-pending : (session : Session) (pending : List ℕ) (old new : Option (List ℕ)) (result : Result (Unit {0}) ReplayEnd) → pending ≡ [] → Prints (end_line session.state) old new result → Finishes (on_lines session (last_line pending)) old new result
-unfolding on_lines
-none-pending session pending old new result empty printed = rw empty (prints-finishes session [] old old new result (adds-nothing old) printed)
-
--- what is pending is a line
-last-line : (session : Session) (pending : List ℕ) → 0 < length pending → on_line session pending ≡ on_lines session (last_line pending)
-last-line session [] some = absurd (omega (arith, some))
-last-line session (byte ∷ bytes) some = sym (on_lines-one session (byte ∷ bytes))
-
-pub last-breaks : (session : Session) (pending : List ℕ) (old new : Option (List ℕ)) (end : ReplayEnd) → 0 < length pending → Breaks (on_line session pending) old new end → Finishes (on_lines session (last_line pending)) old new (Err end)
-last-breaks session pending old new end some breaks = subst (λ (outcome : Outcome). Finishes outcome old new (Err end)) (last-line session pending some) (breaks-finishes (on_line session pending) old new end breaks)
-
-pub last-goes : (session : Session) (next : Logged) (pending : List ℕ) (old mid new : Option (List ℕ)) (result : Result (Unit {0}) ReplayEnd) → 0 < length pending → Runs (on_line session pending) old mid (Ok next) → Prints (end_line next.session.state) mid new result → Finishes (on_lines session (last_line pending)) old new result
-last-goes session next pending old mid new result some (text, is, added) printed =
-    subst (λ (outcome : Outcome). Finishes outcome old new result) (sym is ∙ last-line session pending some) (prints-finishes next.session text old mid new result added printed)
-
--- ## Reading
-
--- Where a run stands between two reads: so much was read, and its ended lines were run and kept.
-pub record IsReading (old_flow new_flow : Option Flow) (old new : Option (List ℕ)) (rig : MemoryRig) (logged : Logged) (pending : List ℕ) : Type 0 where
+-- So much was read. The lines of the first bytes of it were run, each of them ended, and are in the journal;
+-- what follows them is the next line, as far as it was taken, and what is unread.
+pub record IsRunning (in0 in1 : Incoming) (out0 out1 : Outgoing) (said : List ℕ) (rig : MemoryRig) (logged : Logged) (ahead : Ahead) : Type 0 where
   pub bytes : List ℕ
-  pub told : (flow : Flow) → old_flow ≡ Some flow → IsRead flow bytes new_flow
-  pub feeds : Feeds start bytes old new logged.session pending
-  pub log : Logs [] (accepted_lines start (lines_of bytes).ended) logged.end rig
-  pub room : length pending ≤ logged.session.room
+  pub told : (flow : Flow) → in0.flow ≡ Some flow → IsRead flow (bytes ++ (ahead.line ++ ahead.unread)) in1.flow
+  pub reads : in1.faults ≡ in0.faults
+  pub whole : (lines_of bytes).last ≡ []
+  pub text : List ℕ
+  pub ran : on_lines start (lines_of bytes).ended ≡ Goes logged.progress text
+  pub gathered : Gathers out0 out1 said text
+  pub log : Logs [] (accepted_lines start (lines_of bytes).ended) logged.journal rig
 
-pub reading-start : (flow : Option Flow) (old : Option (List ℕ)) (rig : MemoryRig) (logged : Logged) → logged.session ≡ start → Logs [] [] logged.end rig → IsReading flow flow old old rig logged []
-unfolding lines_of accepted_lines
-reading-start flow old rig logged is log = record {
+-- ## What has gathered
+
+gathers-more : (out0 out1 : Outgoing) (said new text more : List ℕ) → Gathers out0 out1 said text → new ≡ said ++ more → Gathers out0 out1 new (text ++ more)
+gathers-more out0 out1 said new text more g is =
+    (g.0, g.1, ap (λ (t : List ℕ). t ++ more) g.2 ∙ append_assoc g.0 said more ∙ ap (λ (t : List ℕ). g.0 ++ t) (sym is))
+
+gathers-written : (out0 out1 out2 : Outgoing) (said text : List ℕ) → Gathers out0 out1 said text → out2 ≡ after_write said out1 → out2 ≡ after_write text out0
+gathers-written out0 out1 out2 said text g w =
+    w ∙ ap (after_write said) g.1 ∙ write-write out0 g.0 said ∙ ap (λ (t : List ℕ). after_write t out0) (sym g.2)
+
+pub gathers-failed : (out0 out1 out2 : Outgoing) (said text : List ℕ) → Gathers out0 out1 said text → FailsWriting said out1 out2 → FailsWriting text out0 out2
+gathers-failed out0 out1 out2 said text g failed =
+    subst (λ (t : List ℕ). FailsWriting t out0 out2) (sym g.2) (write-fails g.0 said out0 out1 out2 g.1 failed)
+
+-- no write failed so far
+gathers-faults : (out0 out1 : Outgoing) (said text : List ℕ) → Gathers out0 out1 said text → out1.faults ≡ out0.faults
+gathers-faults out0 out1 said text g = ap (λ (o : Outgoing). o.faults) g.1
+
+pub writes-all : (out1 out2 : Outgoing) (said left : List ℕ) → out2 ≡ after_write said out1 → left ≡ [] → Writes out1 out2 said left
+writes-all out1 out2 said left w is = (said, w, sym (append-nil said) ∙ ap (λ (t : List ℕ). said ++ t) (sym is))
+
+pub writes-none : (out : Outgoing) (said : List ℕ) → Writes out out said said
+writes-none out said = ([], sym (write-nothing out), refl)
+
+-- ## Steps
+
+pub running-start : (input : Incoming) (out : Outgoing) (said : List ℕ) (rig : MemoryRig) (logged : Logged) (ahead : Ahead) → said ≡ [] → logged.progress ≡ start → Logs [] [] logged.journal rig → ahead.line ≡ [] → ahead.unread ≡ [] → IsRunning input input out out said rig logged ahead
+unfolding lines_of on_lines accepted_lines
+running-start input out said rig logged ahead silent is log line unread = record {
   bytes = [];
-  told = λ told is. record { rest = told.left; left = refl; flow = is ∙ ap (λ given. Some (record { given = given; left = told.left })) (sym (append-nil told.given)) };
-  feeds = subst (λ (session : Session). Feeds start [] old old session []) (sym is) (feeds-start start [] old refl);
+  told = λ flow h. rw (line, unread) (record {
+    rest = flow.left;
+    left = refl;
+    flow = h ∙ ap (λ (given : List ℕ). Some (record { given = given; left = flow.left })) (sym (append-nil flow.given));
+  });
+  reads = refl;
+  whole = refl;
+  text = [];
+  ran = ap (λ (p : Progress). Goes p []) (sym is);
+  gathered = ([], sym (write-nothing out), sym silent);
   log = log;
-  room = omega arith;
 }
 
--- so much more was read
-pub read-more : (old_flow : Flow) (bytes : List ℕ) (mid new : Option Flow) (buffer : List ℕ) (count : ℕ) → IsRead old_flow bytes mid → GivesWhereTold mid new buffer count → IsRead old_flow (bytes ++ take count buffer) new
-read-more old_flow bytes mid new buffer count read gives =
-    let given : Flow = record { given = old_flow.given ++ bytes; left = read.rest } in
-    let gave : Gives given new buffer count = subst (λ (f : Option Flow). GivesWhereTold f new buffer count) read.flow gives in
+-- bytes were taken
+pub running-moved : (in0 in1 : Incoming) (out0 out1 : Outgoing) (said : List ℕ) (rig : MemoryRig) (logged : Logged) (a b : Ahead) → IsRunning in0 in1 out0 out1 said rig logged a → b.line ++ b.unread ≡ a.line ++ a.unread → IsRunning in0 in1 out0 out1 said rig logged b
+running-moved in0 in1 out0 out1 said rig logged a b r moved = record {
+  bytes = r.bytes;
+  told = λ flow is. subst (λ (t : List ℕ). IsRead flow (r.bytes ++ t) in1.flow) (sym moved) (r.told flow is);
+  reads = r.reads;
+  whole = r.whole;
+  text = r.text;
+  ran = r.ran;
+  gathered = r.gathered;
+  log = r.log;
+}
+
+-- a line was run
+pub running-line : (in0 in1 : Incoming) (out0 out1 : Outgoing) (said new : List ℕ) (rig rig2 : MemoryRig) (logged next : Logged) (a b : Ahead) → IsRunning in0 in1 out0 out1 said rig logged a → IsEnded a.line → Says (on_line logged.progress a.line) said new (Ok next) → Logs (payloads_in rig) (accepted_line logged.progress a.line) next.journal rig2 → b.line ≡ [] → b.unread ≡ a.unread → IsRunning in0 in1 out0 out1 new rig2 next b
+running-line in0 in1 out0 out1 said new rig rig2 logged next a b r ended (more, goes, is) log line unread =
+    let p = logged.progress in
+    let front = (lines_of r.bytes).ended in
+    let lines : lines_of (r.bytes ++ a.line) ≡ go_on front (record { ended = a.line ∷ []; last = [] }) = lines-whole r.bytes a.line r.whole ∙ ap (go_on front) ended in
+    let same : (r.bytes ++ a.line) ++ (b.line ++ b.unread) ≡ r.bytes ++ (a.line ++ a.unread) = rw (line, unread) (append_assoc r.bytes a.line a.unread) in
+    let accepted : accepted_lines start (lines_of (r.bytes ++ a.line)).ended ≡ accepted_lines start front ++ accepted_line p a.line =
+    ap (λ (l : Lines). accepted_lines start l.ended) lines
+    ∙ accepted-goes start p r.text front (a.line ∷ []) r.ran
+    ∙ ap (λ (t : List (List ℕ)). accepted_lines start front ++ t) (accepted-one p a.line) in
     record {
-      rest = drop count read.rest;
-      left = read.left ∙ ap (λ t. bytes ++ t) (sym (take-append-drop count read.rest)) ∙ sym (append_assoc bytes (take count read.rest) (drop count read.rest)) ∙ ap (λ t. (bytes ++ t) ++ drop count read.rest) (sym gave.front);
-      flow = gave.moved ∙ ap (λ t. Some (record { given = t; left = drop count read.rest })) (append_assoc old_flow.given bytes (take count read.rest) ∙ ap (λ t. old_flow.given ++ (bytes ++ t)) (sym gave.front));
+      bytes = r.bytes ++ a.line;
+      told = λ flow h. subst (λ (t : List ℕ). IsRead flow t in1.flow) (sym same) (r.told flow h);
+      reads = r.reads;
+      whole = ap (λ (l : Lines). l.last) lines;
+      text = r.text ++ more;
+      ran = ap (λ (l : Lines). on_lines start l.ended) lines
+          ∙ on_lines-goes start p r.text front (a.line ∷ []) r.ran
+          ∙ ap (after_text r.text) (on_lines-one p a.line ∙ goes);
+      gathered = gathers-more out0 out1 said new r.text more r.gathered is;
+      log = record {
+        logging = log.logging;
+        payloads = log.payloads ∙ ap (λ (t : List (List ℕ)). t ++ accepted_line p a.line) r.log.payloads ∙ sym accepted;
+      };
     }
 
--- what a read of nothing leaves
-nothing-left : (given rest : List ℕ) (buffer : List ℕ) (new : Option Flow) → 0 < length buffer → GivesWhereTold (Some (record { given = given; left = rest })) new buffer 0 → (rest ≡ []) × (new ≡ Some (record { given = given ++ []; left = rest }))
-nothing-left given rest buffer new some gave = (gave.some some refl, gave.moved)
+-- some of what had gathered was written
+pub running-written : (in0 in1 : Incoming) (out0 out1 out2 : Outgoing) (said left : List ℕ) (rig : MemoryRig) (logged : Logged) (a : Ahead) → IsRunning in0 in1 out0 out1 said rig logged a → Writes out1 out2 said left → IsRunning in0 in1 out0 out2 left rig logged a
+running-written in0 in1 out0 out1 out2 said left rig logged a r w =
+    let g = r.gathered in
+    record {
+      bytes = r.bytes;
+      told = r.told;
+      reads = r.reads;
+      whole = r.whole;
+      text = r.text;
+      ran = r.ran;
+      gathered = (
+        g.0 ++ w.0,
+        w.1 ∙ ap (after_write w.0) g.1 ∙ write-write out0 g.0 w.0,
+        g.2 ∙ ap (λ (t : List ℕ). g.0 ++ t) w.2 ∙ sym (append_assoc g.0 w.0 left),
+      );
+      log = r.log;
+    }
 
--- a read of nothing: the source has nothing left
-pub read-none : (old_flow : Flow) (bytes : List ℕ) (mid new : Option Flow) (buffer : List ℕ) → 0 < length buffer → IsRead old_flow bytes mid → GivesWhereTold mid new buffer 0 → (old_flow.left ≡ bytes) × IsRead old_flow old_flow.left new
-read-none old_flow bytes mid new buffer some read gives =
-    let gave = nothing-left (old_flow.given ++ bytes) read.rest buffer new some (subst (λ (f : Option Flow). GivesWhereTold f new buffer 0) read.flow gives) in
-    let all : old_flow.left ≡ bytes = read.left ∙ ap (λ t. bytes ++ t) gave.0 ∙ append-nil bytes in (
-      all,
-      record {
-        rest = [];
-        left = sym (append-nil old_flow.left);
-        flow = gave.1 ∙ ap (λ (f : Flow). Some f) (flow-same _ _ _ _ (append-nil (old_flow.given ++ bytes) ∙ ap (λ t. old_flow.given ++ t) (sym all)) gave.0);
-      },
+-- so much more was read
+read-read : (flow : Flow) (a b : List ℕ) (mid new : Option Flow) (r : IsRead flow a mid) → IsRead (record { given = flow.given ++ a; left = r.rest }) b new → IsRead flow (a ++ b) new
+read-read flow a b mid new r n = record {
+  rest = n.rest;
+  left = r.left ∙ ap (λ (t : List ℕ). a ++ t) n.left ∙ sym (append_assoc a b n.rest);
+  flow = n.flow ∙ ap (λ (given : List ℕ). Some (record { given = given; left = n.rest })) (append_assoc flow.given a b);
+}
+
+pub running-read : (in0 in1 in2 : Incoming) (out0 out1 : Outgoing) (said : List ℕ) (rig : MemoryRig) (logged : Logged) (a b : Ahead) → IsRunning in0 in1 out0 out1 said rig logged a → a.unread ≡ [] → b.line ≡ a.line → ReadsOn b.unread in1 in2 → IsRunning in0 in2 out0 out1 said rig logged b
+running-read in0 in1 in2 out0 out1 said rig logged a b r none line reads =
+    let whole : (r.bytes ++ (a.line ++ a.unread)) ++ b.unread ≡ r.bytes ++ (b.line ++ b.unread) =
+    ap (λ (t : List ℕ). (r.bytes ++ (a.line ++ t)) ++ b.unread) none
+    ∙ ap (λ (t : List ℕ). (r.bytes ++ t) ++ b.unread) (append-nil a.line ∙ sym line)
+    ∙ append_assoc r.bytes b.line b.unread in
+    record {
+      bytes = r.bytes;
+      told = λ flow is.
+          let read = r.told flow is in
+          subst (λ (t : List ℕ). IsRead flow t in2.flow) whole
+          (read-read flow (r.bytes ++ (a.line ++ a.unread)) b.unread in1.flow in2.flow read (reads.told _ read.flow).0);
+      reads = reads.faults ∙ r.reads;
+      whole = r.whole;
+      text = r.text;
+      ran = r.ran;
+      gathered = r.gathered;
+      log = r.log;
+    }
+
+-- ## What is left
+
+-- of bytes whose first lines were run
+pub behind : (bytes more text : List ℕ) (progress : Progress) → (lines_of bytes).last ≡ [] → on_lines start (lines_of bytes).ended ≡ Goes progress text → transcript (bytes ++ more) ≡ later text (finish (on_lines progress (all_lines (lines_of more))))
+behind bytes more text progress whole ran =
+    ap (λ (lines : List (List ℕ)). finish (on_lines start lines)) (all-whole bytes more whole)
+    ∙ ap finish (on_lines-goes start progress text (lines_of bytes).ended (all_lines (lines_of more)) ran)
+    ∙ finish-after text (on_lines progress (all_lines (lines_of more)))
+
+-- the whole script begins with the lines that were run
+pub told-left : (in0 in1 : Incoming) (out0 out1 : Outgoing) (said : List ℕ) (rig : MemoryRig) (logged : Logged) (a : Ahead) (r : IsRunning in0 in1 out0 out1 said rig logged a) (flow : Flow) → in0.flow ≡ Some flow → (rest : List ℕ) × (flow.left ≡ r.bytes ++ (a.line ++ rest))
+told-left in0 in1 out0 out1 said rig logged a r flow is =
+    let read = r.told flow is in
+    (a.unread ++ read.rest, read.left ∙ append_assoc r.bytes (a.line ++ a.unread) read.rest ∙ ap (λ (t : List ℕ). r.bytes ++ t) (append_assoc a.line a.unread read.rest))
+
+-- what was said is a prefix of the whole text
+pub begun : (in0 in1 : Incoming) (out0 out1 : Outgoing) (said : List ℕ) (rig : MemoryRig) (logged : Logged) (a : Ahead) (r : IsRunning in0 in1 out0 out1 said rig logged a) (flow : Flow) → in0.flow ≡ Some flow → (more : List ℕ) × ((transcript flow.left).text ≡ r.text ++ more)
+begun in0 in1 out0 out1 said rig logged a r flow is =
+    let left = told-left in0 in1 out0 out1 said rig logged a r flow is in
+    let whole = ap transcript left.1 ∙ behind r.bytes (a.line ++ left.0) r.text logged.progress r.whole r.ran in
+    ((finish (on_lines logged.progress (all_lines (lines_of (a.line ++ left.0))))).text, ap (λ (t : Transcript). t.text) whole)
+
+-- ## Ends
+
+-- memory was missing before anything was read
+pub run-nothing : (input : Incoming) (out : Outgoing) (said : List ℕ) → said ≡ [] → HasRun input input out out said Memory
+run-nothing input out said silent = record {
+  replays = λ flow is. ([], (transcript flow.left).text, ([], sym (write-nothing out), sym silent), refl);
+  reads = refl;
+  writes = refl;
+  silent = tt;
+}
+
+pub run-memory : (in0 in1 : Incoming) (out0 out1 : Outgoing) (said : List ℕ) (rig : MemoryRig) (logged : Logged) (a : Ahead) → IsRunning in0 in1 out0 out1 said rig logged a → HasRun in0 in1 out0 out1 said Memory
+run-memory in0 in1 out0 out1 said rig logged a r = record {
+  replays = λ flow is. let more = begun in0 in1 out0 out1 said rig logged a r flow is in (r.text, more.0, r.gathered, more.1);
+  reads = r.reads;
+  writes = gathers-faults out0 out1 said r.text r.gathered;
+  silent = tt;
+}
+
+-- the sink failed
+pub run-sink : (in0 in1 : Incoming) (out0 out1 out2 : Outgoing) (said left : List ℕ) (rig : MemoryRig) (logged : Logged) (a : Ahead) → IsRunning in0 in1 out0 out1 said rig logged a → FailsWriting said out1 out2 → left ≡ [] → HasRun in0 in1 out0 out2 left WriteFault
+run-sink in0 in1 out0 out1 out2 said left rig logged a r failed silent = record {
+  replays = λ flow is.
+      let more = begun in0 in1 out0 out1 said rig logged a r flow is in
+      subst (λ (t : List ℕ). FailsWriting t out0 out2) (sym more.1)
+      (fails-more r.text more.0 out0 out2 (gathers-failed out0 out1 out2 said r.text r.gathered failed));
+  reads = r.reads;
+  writes = ap (λ (o : Outgoing). o.faults) failed.1 ∙ ap one_more (gathers-faults out0 out1 said r.text r.gathered);
+  silent = silent;
+}
+
+-- the source failed
+pub run-source : (in0 in1 in2 : Incoming) (out0 out1 : Outgoing) (said : List ℕ) (rig : MemoryRig) (logged : Logged) (a : Ahead) → IsRunning in0 in1 out0 out1 said rig logged a → in2 ≡ after_failed_read in1 → said ≡ [] → a.unread ≡ [] → IsUnended a.line → HasRun in0 in2 out0 out1 said ReadFault
+run-source in0 in1 in2 out0 out1 said rig logged a r failed silent none unended =
+    let front = (lines_of r.bytes).ended in
+    let line : lines_of (a.line ++ a.unread) ≡ record { ended = []; last = a.line } = ap lines_of (ap (λ (t : List ℕ). a.line ++ t) none ∙ append-nil a.line) ∙ unended in
+    let lines : lines_of (r.bytes ++ (a.line ++ a.unread)) ≡ go_on front (record { ended = []; last = a.line }) = lines-whole r.bytes (a.line ++ a.unread) r.whole ∙ ap (go_on front) line in
+    record {
+      replays = λ flow is. record {
+        bytes = r.bytes ++ (a.line ++ a.unread);
+        read = subst (λ (f : Option Flow). IsRead flow (r.bytes ++ (a.line ++ a.unread)) f) (sym (ap (λ (i : Incoming). i.flow) failed)) (r.told flow is);
+        progress = logged.progress;
+        text = r.text;
+        ended = ap (λ (l : Lines). on_lines start l.ended) lines ∙ ap (on_lines start) (append-nil front) ∙ r.ran;
+        printed = r.gathered;
+      };
+      reads = ap (λ (i : Incoming). i.faults) failed ∙ ap one_more r.reads;
+      writes = gathers-faults out0 out1 said r.text r.gathered;
+      silent = silent;
+    }
+
+-- the run stops in the line, whatever follows
+stopped : (in0 in1 : Incoming) (out0 out1 : Outgoing) (said : List ℕ) (rig : MemoryRig) (logged : Logged) (a : Ahead) (r : IsRunning in0 in1 out0 out1 said rig logged a) (ending : Ending) → ((more : List ℕ) → on_lines logged.progress (all_lines (lines_of (a.line ++ more))) ≡ Stops ending []) → (flow : Flow) → in0.flow ≡ Some flow → transcript flow.left ≡ transcript_of r.text ending
+stopped in0 in1 out0 out1 said rig logged a r ending stops flow is =
+    let left = told-left in0 in1 out0 out1 said rig logged a r flow is in
+    ap transcript left.1
+    ∙ behind r.bytes (a.line ++ left.0) r.text logged.progress r.whole r.ran
+    ∙ ap (λ (o : Outcome). later r.text (finish o)) (stops left.0)
+    ∙ ap (λ (t : List ℕ). transcript_of t ending) (append-nil r.text)
+
+pub run-outside : (in0 in1 : Incoming) (out0 out1 : Outgoing) (said : List ℕ) (rig : MemoryRig) (logged : Logged) (a : Ahead) (line : ℕ) → IsRunning in0 in1 out0 out1 said rig logged a → ((more : List ℕ) → on_lines logged.progress (all_lines (lines_of (a.line ++ more))) ≡ Stops (Outside line) []) → HasRun in0 in1 out0 out1 said (Script line)
+run-outside in0 in1 out0 out1 said rig logged a line r stops = record {
+  replays = λ flow is.
+      let whole = stopped in0 in1 out0 out1 said rig logged a r (Outside line) stops flow is in
+      (ap (λ (t : Transcript). t.ending) whole, subst (Gathers out0 out1 said) (sym (ap (λ (t : Transcript). t.text) whole)) r.gathered);
+  reads = r.reads;
+  writes = gathers-faults out0 out1 said r.text r.gathered;
+  silent = tt;
+}
+
+pub run-spent : (in0 in1 : Incoming) (out0 out1 : Outgoing) (said : List ℕ) (rig : MemoryRig) (logged : Logged) (a : Ahead) → IsRunning in0 in1 out0 out1 said rig logged a → ((more : List ℕ) → on_lines logged.progress (all_lines (lines_of (a.line ++ more))) ≡ Stops Spent []) → HasRun in0 in1 out0 out1 said NumbersSpent
+run-spent in0 in1 out0 out1 said rig logged a r stops = record {
+  replays = λ flow is.
+      let whole = stopped in0 in1 out0 out1 said rig logged a r Spent stops flow is in
+      (ap (λ (t : Transcript). t.ending) whole, subst (Gathers out0 out1 said) (sym (ap (λ (t : Transcript). t.text) whole)) r.gathered);
+  reads = r.reads;
+  writes = gathers-faults out0 out1 said r.text r.gathered;
+  silent = tt;
+}
+
+-- an ended line at which the run stops
+pub ended-stops : (progress : Progress) (line more : List ℕ) (ending : Ending) → IsEnded line → on_line progress line ≡ Stops ending [] → on_lines progress (all_lines (lines_of (line ++ more))) ≡ Stops ending []
+ended-stops progress line more ending ended is = rw (ended-lines line more ended) (stops-line progress line (all_lines (lines_of more)) ending is)
+
+-- nothing more was said
+still-running : (in0 in1 : Incoming) (out0 out1 : Outgoing) (said new : List ℕ) (rig : MemoryRig) (logged : Logged) (a : Ahead) → new ≡ said → IsRunning in0 in1 out0 out1 said rig logged a → IsRunning in0 in1 out0 out1 new rig logged a
+still-running in0 in1 out0 out1 said new rig logged a same r = subst (λ (s : List ℕ). IsRunning in0 in1 out0 out1 s rig logged a) (sym same) r
+
+pub run-line-fault : (in0 in1 : Incoming) (out0 out1 : Outgoing) (said new : List ℕ) (rig : MemoryRig) (logged : Logged) (a : Ahead) (e : LineFault) → IsRunning in0 in1 out0 out1 said rig logged a → IsEnded a.line → Says (on_line logged.progress a.line) said new (Err e) → HasRun in0 in1 out0 out1 new (end_of (Err (Line e)))
+run-line-fault in0 in1 out0 out1 said new rig logged a (fault.Outside line) r ended (is, same) =
+    run-outside in0 in1 out0 out1 new rig logged a line (still-running in0 in1 out0 out1 said new rig logged a same r) (λ more. ended-stops logged.progress a.line more (Outside line) ended is)
+run-line-fault in0 in1 out0 out1 said new rig logged a fault.Spent r ended (is, same) =
+    run-spent in0 in1 out0 out1 new rig logged a (still-running in0 in1 out0 out1 said new rig logged a same r) (λ more. ended-stops logged.progress a.line more Spent ended is)
+run-line-fault in0 in1 out0 out1 said new rig logged a fault.Memory r ended same =
+    run-memory in0 in1 out0 out1 new rig logged a (still-running in0 in1 out0 out1 said new rig logged a same r)
+
+-- ## The end of the source
+
+-- the script is what was run and the last line
+pub record IsAtEnd (in0 in2 : Incoming) (bytes line : List ℕ) : Type 0 where
+  pub left : (flow : Flow) → in0.flow ≡ Some flow → flow.left ≡ bytes ++ line
+  pub read : (flow : Flow) → in0.flow ≡ Some flow → IsRead flow flow.left in2.flow
+  pub reads : in2.faults ≡ in0.faults
+
+pub at-end : (in0 in1 in2 : Incoming) (out0 out1 : Outgoing) (said : List ℕ) (rig : MemoryRig) (logged : Logged) (a b : Ahead) (r : IsRunning in0 in1 out0 out1 said rig logged a) → a.unread ≡ [] → ReadsOn b.unread in1 in2 → b.unread ≡ [] → IsAtEnd in0 in2 r.bytes a.line
+at-end in0 in1 in2 out0 out1 said rig logged a b r none reads ended =
+    let whole : List ℕ = r.bytes ++ (a.line ++ a.unread) in
+    let all : (flow : Flow) → in0.flow ≡ Some flow → flow.left ≡ whole = λ flow is.
+    let read = r.told flow is in
+    read.left ∙ ap (λ (t : List ℕ). whole ++ t) ((reads.told _ read.flow).1 ended) ∙ append-nil whole in
+    record {
+      left = λ flow is. all flow is ∙ ap (λ (t : List ℕ). r.bytes ++ (a.line ++ t)) none ∙ ap (λ (t : List ℕ). r.bytes ++ t) (append-nil a.line);
+      read = λ flow is.
+          let read = r.told flow is in
+          subst (λ (t : List ℕ). IsRead flow t in2.flow) (ap (λ (t : List ℕ). whole ++ t) ended ∙ append-nil whole ∙ sym (all flow is))
+          (read-read flow whole b.unread in1.flow in2.flow read (reads.told _ read.flow).0);
+      reads = reads.faults ∙ r.reads;
+    }
+
+-- the transcript of the script from the last line on
+last-transcript : (in0 in1 in2 : Incoming) (out0 out1 : Outgoing) (said : List ℕ) (rig : MemoryRig) (logged : Logged) (a : Ahead) (r : IsRunning in0 in1 out0 out1 said rig logged a) → IsAtEnd in0 in2 r.bytes a.line → IsUnended a.line → (flow : Flow) → in0.flow ≡ Some flow → transcript flow.left ≡ later r.text (finish (on_lines logged.progress (last_line a.line)))
+last-transcript in0 in1 in2 out0 out1 said rig logged a r end unended flow is =
+    ap transcript (end.left flow is)
+    ∙ behind r.bytes a.line r.text logged.progress r.whole r.ran
+    ∙ ap (λ (l : Lines). later r.text (finish (on_lines logged.progress (all_lines l)))) unended
+
+pub run-finished : (in0 in1 in2 : Incoming) (out0 out1 : Outgoing) (said new : List ℕ) (rig : MemoryRig) (logged : Logged) (a : Ahead) (r : IsRunning in0 in1 out0 out1 said rig logged a) → IsAtEnd in0 in2 r.bytes a.line → IsUnended a.line → (done : Unit {0}) → Finishes (finish (on_lines logged.progress (last_line a.line))) said new (Ok done) → HasRun in0 in2 out0 out1 new Done
+run-finished in0 in1 in2 out0 out1 said new rig logged a r end unended done (finished, is) = record {
+  replays = λ flow h.
+      let whole = last-transcript in0 in1 in2 out0 out1 said rig logged a r end unended flow h in (
+        ap (λ (t : Transcript). t.ending) whole ∙ finished,
+        end.read flow h,
+        subst (Gathers out0 out1 new) (sym (ap (λ (t : Transcript). t.text) whole)) (gathers-more out0 out1 said new r.text _ r.gathered is),
+      );
+  reads = end.reads;
+  writes = gathers-faults out0 out1 said r.text r.gathered;
+  silent = tt;
+}
+
+-- the run stopped in the last line
+last-stopped : (in0 in1 in2 : Incoming) (out0 out1 : Outgoing) (said new : List ℕ) (rig : MemoryRig) (logged : Logged) (a : Ahead) (r : IsRunning in0 in1 out0 out1 said rig logged a) (ending : Ending) → IsAtEnd in0 in2 r.bytes a.line → IsUnended a.line → finish (on_lines logged.progress (last_line a.line)) ≡ transcript_of [] ending → new ≡ said → (flow : Flow) → in0.flow ≡ Some flow → ((transcript flow.left).ending ≡ ending) × Gathers out0 out1 new (transcript flow.left).text
+last-stopped in0 in1 in2 out0 out1 said new rig logged a r ending end unended stops same flow is =
+    let whole = last-transcript in0 in1 in2 out0 out1 said rig logged a r end unended flow is ∙ ap (later r.text) stops in (
+      ap (λ (t : Transcript). t.ending) whole,
+      subst (Gathers out0 out1 new) (sym (ap (λ (t : Transcript). t.text) whole))
+          (gathers-more out0 out1 said new r.text [] r.gathered (same ∙ sym (append-nil said))),
     )
+
+pub run-finish-fault : (in0 in1 in2 : Incoming) (out0 out1 : Outgoing) (said new : List ℕ) (rig : MemoryRig) (logged : Logged) (a : Ahead) (e : LineFault) (r : IsRunning in0 in1 out0 out1 said rig logged a) → IsAtEnd in0 in2 r.bytes a.line → IsUnended a.line → Finishes (finish (on_lines logged.progress (last_line a.line))) said new (Err e) → HasRun in0 in2 out0 out1 new (end_of (Err (Line e)))
+run-finish-fault in0 in1 in2 out0 out1 said new rig logged a (fault.Outside line) r end unended (is, same) = record {
+  replays = last-stopped in0 in1 in2 out0 out1 said new rig logged a r (Outside line) end unended is same;
+  reads = end.reads;
+  writes = gathers-faults out0 out1 said r.text r.gathered;
+  silent = tt;
+}
+run-finish-fault in0 in1 in2 out0 out1 said new rig logged a fault.Spent r end unended (is, same) = record {
+  replays = last-stopped in0 in1 in2 out0 out1 said new rig logged a r Spent end unended is same;
+  reads = end.reads;
+  writes = gathers-faults out0 out1 said r.text r.gathered;
+  silent = tt;
+}
+run-finish-fault in0 in1 in2 out0 out1 said new rig logged a fault.Memory r end unended (part, more, parts, is) = record {
+  replays = λ flow h.
+      let whole = last-transcript in0 in1 in2 out0 out1 said rig logged a r end unended flow h in (
+        r.text ++ part,
+        more,
+        gathers-more out0 out1 said new r.text part r.gathered is,
+        ap (λ (t : Transcript). t.text) whole ∙ ap (λ (t : List ℕ). r.text ++ t) parts ∙ sym (append_assoc r.text part more),
+      );
+  reads = end.reads;
+  writes = gathers-faults out0 out1 said r.text r.gathered;
+  silent = tt;
+}
+
+-- ## Writing what has gathered
+
+pub prefix-written : (out0 out1 out2 : Outgoing) (said text : List ℕ) → GathersPrefix out0 out1 said text → out2 ≡ after_write said out1 → WritesPrefix text out0 out2
+prefix-written out0 out1 out2 said text (before, more, g, parts) w =
+    subst (λ (t : List ℕ). WritesPrefix t out0 out2) (sym parts)
+    (prefix-more before more out0 out2 (prefix-all before out0 out2 (gathers-written out0 out1 out2 said before g w)))
+
+pub failed-written : (out0 out1 out2 : Outgoing) (said text : List ℕ) → FailsWriting text out0 out1 → said ≡ [] → out2 ≡ after_write said out1 → FailsWriting text out0 out2
+failed-written out0 out1 out2 said text failed silent w =
+    subst (λ (o : Outgoing). FailsWriting text out0 o) (sym (w ∙ ap (λ (s : List ℕ). after_write s out1) silent ∙ write-nothing out1)) failed
+
+pub prefix-failed : (out0 out1 out2 : Outgoing) (said text : List ℕ) → GathersPrefix out0 out1 said text → FailsWriting said out1 out2 → FailsWriting text out0 out2
+prefix-failed out0 out1 out2 said text (before, more, g, parts) failed =
+    subst (λ (t : List ℕ). FailsWriting t out0 out2) (sym parts)
+    (fails-more before more out0 out2 (gathers-failed out0 out1 out2 said before g failed))
+
+pub written-replays : (in0 in1 : Incoming) (out0 out1 out2 : Outgoing) (said : List ℕ) (end : ReplayEnd) → HasRun in0 in1 out0 out1 said end → out2 ≡ after_write said out1 → (flow : Flow) → in0.flow ≡ Some flow → Replays out0 out2 flow in1.flow end
+written-replays in0 in1 out0 out1 out2 said end run w flow is = rows end run.silent (run.replays flow is)
   where
-    flow-same : (a b c d : List ℕ) → a ≡ b → c ≡ d → Path Flow (record { given = a; left = c }) (record { given = b; left = d })
-    flow-same a b c d e f = cc
+    rows : (e : ReplayEnd) → IsSilentAt e said → Gathered out0 out1 said flow in1.flow e → Replays out0 out2 flow in1.flow e
+    rows Done silent h = (h.0, h.1, gathers-written out0 out1 out2 said _ h.2 w)
+    rows (Script line) silent h = (h.0, gathers-written out0 out1 out2 said _ h.1 w)
+    rows NumbersSpent silent h = (h.0, gathers-written out0 out1 out2 said _ h.1 w)
+    rows ReadFault silent h = record {
+      bytes = h.bytes;
+      read = h.read;
+      progress = h.progress;
+      text = h.text;
+      ended = h.ended;
+      printed = gathers-written out0 out1 out2 said h.text h.printed w;
+    }
+    rows WriteFault silent h = failed-written out0 out1 out2 said (transcript flow.left).text h silent w
+    rows Memory silent h = inl (prefix-written out0 out1 out2 said (transcript flow.left).text h w)
 
--- ## How a run ends
+pub written-faults : (in0 in1 : Incoming) (out0 out1 out2 : Outgoing) (said : List ℕ) (end : ReplayEnd) → HasRun in0 in1 out0 out1 said end → out2 ≡ after_write said out1 → CountsWrites end out0.faults out2.faults
+written-faults in0 in1 out0 out1 out2 said end run w = inl (ap (λ (o : Outgoing). o.faults) w ∙ run.writes)
 
--- a finish is that of the script, where it was read to its end
-finish-replays : (flow : Flow) (new_flow : Option Flow) (old new : Option (List ℕ)) (result : Result (Unit {0}) ReplayEnd) → IsRead flow flow.left new_flow → Finishes (on_lines start (all_lines (lines_of flow.left))) old new result → ReplaysTo flow new_flow old new result
-finish-replays flow new_flow old new (Ok done) read (is, added) = (is, read, added)
-finish-replays flow new_flow old new (Err (Script line)) read h = h
-finish-replays flow new_flow old new (Err NumbersSpent) read h = h
-finish-replays flow new_flow old new (Err WriteFault) read h = h
-finish-replays flow new_flow old new (Err Memory) read h = h
-finish-replays flow new_flow old new (Err Done) read h = absurd h
-finish-replays flow new_flow old new (Err ReadFault) read h = absurd h
+pub silent-some : (said : List ℕ) → said ≡ [] → 0 < length said → ⊥
+silent-some said silent some = let none : length said ≡ 0 = ap length silent in omega (arith, none, some)
 
--- a run that broke off, wherever the source was
-breaks-replays : (flow : Flow) (new_flow : Option Flow) (old new : Option (List ℕ)) (end : ReplayEnd) → Finishes (on_lines start (all_lines (lines_of flow.left))) old new (Err end) → Replays flow new_flow old new end
-breaks-replays flow new_flow old new (Script line) h = h
-breaks-replays flow new_flow old new NumbersSpent h = h
-breaks-replays flow new_flow old new WriteFault h = h
-breaks-replays flow new_flow old new Memory h = h
-breaks-replays flow new_flow old new Done h = absurd h
-breaks-replays flow new_flow old new ReadFault h = absurd h
+-- ## A last write that fails
 
--- the source failed
-pub reading-fault : (old_flow mid_flow new_flow : Option Flow) (old new : Option (List ℕ)) (rig : MemoryRig) (logged : Logged) (pending : List ℕ) → IsReading old_flow mid_flow old new rig logged pending → new_flow ≡ mid_flow → (flow : Flow) → old_flow ≡ Some flow → Replays flow new_flow old new ReadFault
-reading-fault old_flow mid_flow new_flow old new rig logged pending reading same flow is = record {
-  bytes = reading.bytes;
-  read = subst (λ (f : Option Flow). IsRead flow reading.bytes f) (sym same) (reading.told flow is);
-  session = logged.session;
-  text = reading.feeds.text;
-  ended = reading.feeds.outcome;
-  printed = reading.feeds.printed;
-}
+pub failed-replays : (in0 in1 : Incoming) (out0 out1 out2 : Outgoing) (said : List ℕ) (end : ReplayEnd) → HasRun in0 in1 out0 out1 said end → FailsWriting said out1 out2 → 0 < length said → (flow : Flow) → in0.flow ≡ Some flow → Replays out0 out2 flow in1.flow (unwritten end)
+failed-replays in0 in1 out0 out1 out2 said end run failed some flow is = rows end run.silent (run.replays flow is)
+  where
+    rows : (e : ReplayEnd) → IsSilentAt e said → Gathered out0 out1 said flow in1.flow e → Replays out0 out2 flow in1.flow (unwritten e)
+    rows Done silent h = gathers-failed out0 out1 out2 said _ h.2 failed
+    rows (Script line) silent h = gathers-failed out0 out1 out2 said _ h.1 failed
+    rows NumbersSpent silent h = gathers-failed out0 out1 out2 said _ h.1 failed
+    rows ReadFault silent h = absurd (silent-some said silent some)
+    rows WriteFault silent h = absurd (silent-some said silent some)
+    rows Memory silent h = inr (prefix-failed out0 out1 out2 said (transcript flow.left).text h failed)
 
--- the source ended, and what was pending was finished
-pub reading-end : (old_flow mid_flow new_flow : Option Flow) (old mid new : Option (List ℕ)) (rig : MemoryRig) (logged : Logged) (pending buffer : List ℕ) (result : Result (Unit {0}) ReplayEnd) → 0 < length buffer
-    → IsReading old_flow mid_flow old mid rig logged pending → GivesWhereTold mid_flow new_flow buffer 0 → Finishes (on_lines logged.session (last_line pending)) mid new result
-    → (flow : Flow) → old_flow ≡ Some flow → ReplaysTo flow new_flow old new result
-reading-end old_flow mid_flow new_flow old mid new rig logged pending buffer result some reading gives finished flow is =
-    let session = logged.session in
-    let ended = read-none flow reading.bytes mid_flow new_flow buffer some (reading.told flow is) gives in
-    let goes = feeds-goes start session reading.bytes [] pending old mid reading.feeds in
-    let last : all_lines (lines_of (pending ++ [])) ≡ last_line pending = ap (λ t. all_lines (lines_of t)) (append-nil pending) ∙ ap all_lines (lines-open pending (feeds-open start session reading.bytes pending old mid reading.feeds)) in
-    let whole : on_lines start (all_lines (lines_of flow.left)) ≡ after_text reading.feeds.text (on_lines session (last_line pending)) =
-    ap (λ t. on_lines start (all_lines (lines_of t))) (ended.0 ∙ sym (append-nil reading.bytes)) ∙ goes ∙ ap (λ lines. after_text reading.feeds.text (on_lines session lines)) last in
-    finish-replays flow new_flow old new result ended.1
-    (subst (λ (outcome : Outcome). Finishes outcome old new result) (sym whole) (finishes-after (on_lines session (last_line pending)) reading.feeds.text old mid new result reading.feeds.printed finished))
+pub failed-reads : (in0 in1 : Incoming) (out0 out1 : Outgoing) (said : List ℕ) (end : ReplayEnd) → HasRun in0 in1 out0 out1 said end → 0 < length said → in1.faults ≡ read_faults (unwritten end) in0.faults
+failed-reads in0 in1 out0 out1 said end run some = rows end run.silent run.reads
+  where
+    rows : (e : ReplayEnd) → IsSilentAt e said → in1.faults ≡ read_faults e in0.faults → in1.faults ≡ read_faults (unwritten e) in0.faults
+    rows Done silent h = h
+    rows (Script line) silent h = h
+    rows NumbersSpent silent h = h
+    rows ReadFault silent h = absurd (silent-some said silent some)
+    rows WriteFault silent h = h
+    rows Memory silent h = h
 
--- new bytes broke the run off
-pub reading-stops : (old_flow mid_flow new_flow : Option Flow) (old mid new : Option (List ℕ)) (rig : MemoryRig) (logged : Logged) (pending buffer : List ℕ) (count : ℕ) (end : ReplayEnd)
-    → IsReading old_flow mid_flow old mid rig logged pending → GivesWhereTold mid_flow new_flow buffer count → StopsWithin logged.session (pending ++ take count buffer) mid new end
-    → (flow : Flow) → old_flow ≡ Some flow → Replays flow new_flow old new end
-reading-stops old_flow mid_flow new_flow old mid new rig logged pending buffer count end reading gives stops flow is =
-    let read = read-more flow reading.bytes mid_flow new_flow buffer count (reading.told flow is) gives in
-    let broke = feeds-stops start logged.session reading.bytes (take count buffer) pending old mid new end reading.feeds stops read.rest in
-    breaks-replays flow new_flow old new end
-    (subst (λ (bytes : List ℕ). Finishes (on_lines start (all_lines (lines_of bytes))) old new (Err end)) (sym read.left) (breaks-finishes _ old new end broke))
+pub failed-writes : (in0 in1 : Incoming) (out0 out1 out2 : Outgoing) (said : List ℕ) (end : ReplayEnd) → HasRun in0 in1 out0 out1 said end → FailsWriting said out1 out2 → 0 < length said → CountsWrites (unwritten end) out0.faults out2.faults
+failed-writes in0 in1 out0 out1 out2 said end run failed some = rows end run.silent run.writes
+  where
+    counted : out1.faults ≡ out0.faults → out2.faults ≡ one_more out0.faults
+    counted h = ap (λ (o : Outgoing). o.faults) failed.1 ∙ ap one_more h
 
--- new bytes were fed
-pub reading-more : (old_flow mid_flow new_flow : Option Flow) (old mid new : Option (List ℕ)) (rig new_rig : MemoryRig) (logged next : Logged) (pending kept buffer : List ℕ) (count : ℕ)
-    → IsReading old_flow mid_flow old mid rig logged pending → GivesWhereTold mid_flow new_flow buffer count → Feeds logged.session (pending ++ take count buffer) mid new next.session kept
-    → Logs (payloads_in rig) (accepted_lines logged.session (lines_of (pending ++ take count buffer)).ended) next.end new_rig → length kept ≤ next.session.room
-    → IsReading old_flow new_flow old new new_rig next kept
-reading-more old_flow mid_flow new_flow old mid new rig new_rig logged next pending kept buffer count reading gives feeds log room = record {
-  bytes = reading.bytes ++ take count buffer;
-  told = λ flow is. read-more flow reading.bytes mid_flow new_flow buffer count (reading.told flow is) gives;
-  feeds = feeds-feeds start logged.session next.session reading.bytes (take count buffer) pending kept old mid new reading.feeds feeds;
-  log = logs-logs [] _ _ _ next.end logged.end rig new_rig reading.log log (accepted-feeds start logged.session reading.bytes (take count buffer) pending old mid reading.feeds);
-  room = room;
-}
+    rows : (e : ReplayEnd) → IsSilentAt e said → out1.faults ≡ write_faults e out0.faults → CountsWrites (unwritten e) out0.faults out2.faults
+    rows Done silent h = inl (counted h)
+    rows (Script line) silent h = inl (counted h)
+    rows NumbersSpent silent h = inl (counted h)
+    rows ReadFault silent h = inl (counted h)
+    rows WriteFault silent h = absurd (silent-some said silent some)
+    rows Memory silent h = inr (refl, counted h)
 
--- a line that can't end within the room that is left
-too-long : (next : Session) (byte : ℕ) (bytes rest : List ℕ) → IsOpen (byte ∷ bytes) → next.room < length (byte ∷ bytes) → on_lines next (all_lines (lines_of ((byte ∷ bytes) ++ rest))) ≡ Stops (Outside (next.lines + 1)) []
-unfolding on_line on_lines
-too-long next byte bytes rest open_line over =
-    let first = first-line byte bytes rest open_line in
-    let longer : length (byte ∷ (bytes ++ first.0)) ≡ length (byte ∷ bytes) + length first.0 = length-append (byte ∷ bytes) first.0 in
-    let over_room : nat_lt next.room (length (byte ∷ (bytes ++ first.0))) ≡ true = grind (arith, over, longer) in
-    rw first.2 (rw over_room refl)
+-- ## The loop
 
-limit : (next : Session) (line rest : List ℕ) → IsOpen line → next.room < length line → on_lines next (all_lines (lines_of (line ++ rest))) ≡ Stops (Outside (next.lines + 1)) []
-limit next [] rest h k = absurd (omega (arith, k))
-limit next (byte ∷ bytes) rest h k = too-long next byte bytes rest h k
+pub at-true : (b : Bool) (P Q : Type 0) → b ≡ true → MatchBool b P Q → P
+at-true true P Q is h = h
+at-true false P Q is h = cc
 
--- what is pending passes the limit of a script
-pub over-limit : (session next : Session) (bytes kept : List ℕ) (old new : Option (List ℕ)) → Feeds session bytes old new next kept → next.room < length kept → StopsWithin session bytes old new (Script (next.lines + 1))
-over-limit session next bytes kept old new feeds over = λ rest.
-    let goes = feeds-goes session next bytes rest kept old new feeds in
-    let stops = limit next kept rest (feeds-open session next bytes kept old new feeds) over in
-    (feeds.text, goes ∙ ap (after_text feeds.text) stops ∙ ap (Stops (Outside (next.lines + 1))) (append-nil feeds.text), feeds.printed)
+pub at-false : (b : Bool) (P Q : Type 0) → b ≡ false → MatchBool b P Q → Q
+at-false true P Q is h = cc
+at-false false P Q is h = h
 
-err-same : {X : Type 0} (end : ReplayEnd) → Path (Result X ReplayEnd) (Err end) (Err ReadFault) → end ≡ ReadFault
-err-same end is = cc
+pub unended-none : (line : List ℕ) → line ≡ [] → IsUnended line
+unfolding lines_of
+unended-none line is = rw is refl
 
--- new bytes break a run off for no fault of the source
-pub stops-unread : {X : Type 0} (session : Session) (bytes : List ℕ) (old new : Option (List ℕ)) (end : ReplayEnd) (from to : ℕ) → from ≤ to → StopsWithin session bytes old new end → CountsReadFault {X = X} from to (Err end)
-stops-unread session bytes old new end from to h stops = (h, λ is. absurd (subst (λ (e : ReplayEnd). Breaks (on_lines session (all_lines (lines_of (bytes ++ [])))) old new e) (err-same end is) (stops [])))
+-- a line was run
+pub step-ran : (in0 in1 : Incoming) (out0 out1 : Outgoing) (said new : List ℕ) (rig rig2 : MemoryRig) (logged next : Logged) (a b : Ahead) (line : List ℕ) → IsRunning in0 in1 out0 out1 said rig logged a → line ≡ a.line → IsEnded a.line → Says (on_line logged.progress line) said new (Ok next) → Logs (payloads_in rig) (accepted_line logged.progress line) next.journal rig2 → b.line ≡ [] → b.unread ≡ a.unread → IsRunning in0 in1 out0 out1 new rig2 next b
+step-ran in0 in1 out0 out1 said new rig rig2 logged next a b line r same ended says log empty unread =
+    running-line in0 in1 out0 out1 said new rig rig2 logged next a b r ended
+    (subst (λ (l : List ℕ). Says (on_line logged.progress l) said new (Ok next)) same says)
+    (subst (λ (l : List ℕ). Logs (payloads_in rig) (accepted_line logged.progress l) next.journal rig2) same log)
+    empty unread
 
--- ## What the journal keeps
+-- all that had gathered was written, and more was read
+pub step-read : (in0 in1 in2 : Incoming) (out0 out1 out2 : Outgoing) (said left : List ℕ) (rig : MemoryRig) (logged : Logged) (a b : Ahead) → IsRunning in0 in1 out0 out1 said rig logged a → out2 ≡ after_write said out1 → left ≡ [] → a.unread ≡ [] → b.line ≡ a.line → ReadsOn b.unread in1 in2 → IsRunning in0 in2 out0 out2 left rig logged b
+step-read in0 in1 in2 out0 out1 out2 said left rig logged a b r written silent none line reads =
+    running-read in0 in1 in2 out0 out2 left rig logged a b
+    (running-written in0 in1 out0 out1 out2 said left rig logged a r (writes-all out1 out2 said left written silent)) none line reads
 
--- a run that broke off has no end line
-keeps-lines : (session : Session) (lines before : List (List ℕ)) (old new : Option (List ℕ)) (file : List ℕ) (end : ReplayEnd) → KeepsLines session lines before old new file end → Keeps session lines before old new file end
-keeps-lines session lines before old new file Done h = h
-keeps-lines session lines before old new file (Script line) h = h
-keeps-lines session lines before old new file NumbersSpent h = h
-keeps-lines session lines before old new file ReadFault h = h
-keeps-lines session lines before old new file WriteFault h = inl h
-keeps-lines session lines before old new file Memory h = inl h
+-- the measure goes down with each line, and with each read
+pub smaller-line : (room line unread taken left next bline bunread : ℕ) → taken + left ≡ line + unread → left < unread → taken ≤ room → next + taken ≡ room → bline ≡ 0 → bunread ≡ left → 2 * (next - bline) + (1 - bunread) < 2 * (room - line) + (1 - unread)
+smaller-line room line unread taken left next bline bunread moved fewer within counted empty same = omega (arith, moved, fewer, within, counted, empty, same)
 
--- all lines were run
-pub finished-keeps : (session : Session) (lines before : List (List ℕ)) (old new : Option (List ℕ)) (file : List ℕ) (result : Result (Unit {0}) ReplayEnd) → StandsFor (before ++ accepted_lines session lines) file → Finishes (on_lines session lines) old new result → KeepsTo session lines before old new file result
-finished-keeps session lines before old new file (Ok done) stands h = stands
-finished-keeps session lines before old new file (Err Done) stands h = absurd h
-finished-keeps session lines before old new file (Err (Script line)) stands h = stands
-finished-keeps session lines before old new file (Err NumbersSpent) stands h = stands
-finished-keeps session lines before old new file (Err ReadFault) stands h = absurd h
-finished-keeps session lines before old new file (Err WriteFault) stands h = inr (stands, h)
-finished-keeps session lines before old new file (Err Memory) stands h = inr (stands, h)
+pub smaller-read : (room line unread taken left bline bunread : ℕ) → taken + left ≡ line + unread → left ≡ 0 → taken ≤ room → bline ≡ taken → 0 < bunread → 2 * (room - bline) + (1 - bunread) < 2 * (room - line) + (1 - unread)
+smaller-read room line unread taken left bline bunread moved none within same some = omega (arith, moved, none, within, same, some)
 
--- the run broke off in the last line
-pub last-keeps : (session : Session) (pending : List ℕ) (before : List (List ℕ)) (old new : Option (List ℕ)) (file : List ℕ) (end : ReplayEnd) → 0 < length pending → KeepsLine (on_line session pending) before (accepted_line session pending) old new file end → Keeps session (last_line pending) before old new file end
-last-keeps session [] before old new file end some h = absurd (omega (arith, some))
-last-keeps session (byte ∷ bytes) before old new file end some h = keeps-lines session ((byte ∷ bytes) ∷ []) before old new file end (keeps-one session (byte ∷ bytes) before old new file end h)
-
--- what file A stands for when the last line was run
-pub last-stands : (session : Session) (pending : List ℕ) (before : List (List ℕ)) (end : ℕ) (rig : MemoryRig) → 0 < length pending → Logs before (accepted_line session pending) end rig → StandsFor (before ++ accepted_lines session (last_line pending)) rig.a.bytes
-last-stands session [] before end rig some log = absurd (omega (arith, some))
-last-stands session (byte ∷ bytes) before end rig some log = subst (λ (added : List (List ℕ)). StandsFor (before ++ added) rig.a.bytes) (sym (accepted-one session (byte ∷ bytes))) (logs-stands before _ end rig log)
-
--- and where there is none
-pub none-stands : (session : Session) (pending : List ℕ) (end : ℕ) (rig : MemoryRig) → pending ≡ [] → IsLogging end rig → StandsFor (payloads_in rig ++ accepted_lines session (last_line pending)) rig.a.bytes
-unfolding accepted_lines
-none-stands session pending end rig empty log = rw (empty, append-nil) (logging-stands end rig log)
-
--- what was printed is a prefix of itself
-adds-prefix-whole : (old new : Option (List ℕ)) (text : List ℕ) → Adds old new text → AddsPrefix old new text
-adds-prefix-whole old new text h = subst (AddsPrefix old new) (append-nil text) (adds-adds-prefix old new new text [] h (adds-prefix-nothing new []))
-
--- all of these lines were run
-cut-whole : (session : Session) (lines before : List (List ℕ)) (old new : Option (List ℕ)) (file : List ℕ) → StandsFor (before ++ accepted_lines session lines) file → AddsPrefix old new (text_of (on_lines session lines)) → IsCutOff session lines before old new file
-cut-whole session lines before old new file stands printed =
-    let all : take (length lines) lines ≡ lines = take_all (length lines) lines (omega arith) in
-    record { count = length lines; kept = rw all stands; printed = rw all printed }
-
-short-after : (session mid : Session) (text : List ℕ) (xs ys before : List (List ℕ)) (w0 w1 w2 : Option (List ℕ)) (file : List ℕ) → on_lines session xs ≡ Goes mid text → Adds w0 w1 text → IsCutShort mid ys (before ++ accepted_lines session xs) w1 w2 file → IsCutShort session (xs ++ ys) before w0 w2 file
-short-after session mid text xs ys before w0 w1 w2 file goes added (inl cut) = inl (cut-after session mid text xs ys before w0 w1 w2 file goes added cut)
-short-after session mid text xs ys before w0 w1 w2 file goes added (inr whole) = inr (
-  stands-after session mid text xs ys before file goes whole.0,
-  rw (on_lines-goes session mid text xs ys goes, (finish-after text (on_lines mid ys)).1) (adds-adds-prefix w0 w1 w2 text (finish (on_lines mid ys)).text added whole.1),
-)
-
--- lines that went on, and then some to the end
-keeps-behind : (session mid : Session) (text : List ℕ) (xs ys before : List (List ℕ)) (w0 w1 w2 : Option (List ℕ)) (file : List ℕ) (end : ReplayEnd) → on_lines session xs ≡ Goes mid text → Adds w0 w1 text → Keeps mid ys (before ++ accepted_lines session xs) w1 w2 file end → Keeps session (xs ++ ys) before w0 w2 file end
-keeps-behind session mid text xs ys before w0 w1 w2 file Done goes added h = stands-after session mid text xs ys before file goes h
-keeps-behind session mid text xs ys before w0 w1 w2 file (Script line) goes added h = stands-after session mid text xs ys before file goes h
-keeps-behind session mid text xs ys before w0 w1 w2 file NumbersSpent goes added h = stands-after session mid text xs ys before file goes h
-keeps-behind session mid text xs ys before w0 w1 w2 file ReadFault goes added h = cut-after session mid text xs ys before w0 w1 w2 file goes added h
-keeps-behind session mid text xs ys before w0 w1 w2 file WriteFault goes added h = short-after session mid text xs ys before w0 w1 w2 file goes added h
-keeps-behind session mid text xs ys before w0 w1 w2 file Memory goes added h = short-after session mid text xs ys before w0 w1 w2 file goes added h
-
-to-behind : (session mid : Session) (text : List ℕ) (xs ys before : List (List ℕ)) (w0 w1 w2 : Option (List ℕ)) (file : List ℕ) (result : Result (Unit {0}) ReplayEnd) → on_lines session xs ≡ Goes mid text → Adds w0 w1 text → KeepsTo mid ys (before ++ accepted_lines session xs) w1 w2 file result → KeepsTo session (xs ++ ys) before w0 w2 file result
-to-behind session mid text xs ys before w0 w1 w2 file (Ok done) goes added h = keeps-behind session mid text xs ys before w0 w1 w2 file Done goes added h
-to-behind session mid text xs ys before w0 w1 w2 file (Err end) goes added h = keeps-behind session mid text xs ys before w0 w1 w2 file end goes added h
-
--- the source failed
-pub reading-fault-keeps : (old_flow new_flow : Option Flow) (old new : Option (List ℕ)) (rig : MemoryRig) (logged : Logged) (pending : List ℕ) → IsReading old_flow new_flow old new rig logged pending → (flow : Flow) → old_flow ≡ Some flow → Keeps start (all_lines (lines_of flow.left)) [] old new rig.a.bytes ReadFault
-reading-fault-keeps old_flow new_flow old new rig logged pending reading flow is =
-    let read = reading.told flow is in
-    let ended = (lines_of reading.bytes).ended in
-    let parts : all_lines (lines_of flow.left) ≡ ended ++ all_lines (lines_of (pending ++ read.rest)) = ap (λ bytes. all_lines (lines_of bytes)) read.left ∙ lines-behind reading.bytes pending read.rest reading.feeds.pending in
-    subst (λ (lines : List (List ℕ)). IsCutOff start lines [] old new rig.a.bytes) (sym parts)
-    (cut-more start ended (all_lines (lines_of (pending ++ read.rest))) [] old new rig.a.bytes
-    (cut-whole start ended [] old new rig.a.bytes (logs-stands [] (accepted_lines start ended) logged.end rig reading.log)
-    (subst (λ (outcome : Outcome). AddsPrefix old new (text_of outcome)) (sym reading.feeds.outcome) (adds-prefix-whole old new reading.feeds.text reading.feeds.printed))))
-
--- new bytes broke the run off
-pub reading-stops-keeps : (old_flow mid_flow new_flow : Option Flow) (old mid new : Option (List ℕ)) (rig : MemoryRig) (logged : Logged) (pending buffer : List ℕ) (count : ℕ) (file : List ℕ) (end : ReplayEnd)
-    → IsReading old_flow mid_flow old mid rig logged pending → GivesWhereTold mid_flow new_flow buffer count → KeepsWithin logged.session (pending ++ take count buffer) (payloads_in rig) mid new file end
-    → (flow : Flow) → old_flow ≡ Some flow → Keeps start (all_lines (lines_of flow.left)) [] old new file end
-reading-stops-keeps old_flow mid_flow new_flow old mid new rig logged pending buffer count file end reading gives keeps flow is =
-    let read = read-more flow reading.bytes mid_flow new_flow buffer count (reading.told flow is) gives in
-    let kept = subst (λ (before : List (List ℕ)). KeepsWithin logged.session (pending ++ take count buffer) before mid new file end) reading.log.payloads keeps in
-    keeps-lines start (all_lines (lines_of flow.left)) [] old new file end
-    (subst (λ (bytes : List ℕ). KeepsLines start (all_lines (lines_of bytes)) [] old new file end) (sym read.left)
-    (feeds-keeps start logged.session reading.bytes (take count buffer) pending [] old mid new file end reading.feeds kept read.rest))
-
--- the source ended, and what was pending was finished
-pub reading-end-keeps : (old_flow mid_flow new_flow : Option Flow) (old mid new : Option (List ℕ)) (rig : MemoryRig) (logged : Logged) (pending buffer : List ℕ) (file : List ℕ) (result : Result (Unit {0}) ReplayEnd) → 0 < length buffer
-    → IsReading old_flow mid_flow old mid rig logged pending → GivesWhereTold mid_flow new_flow buffer 0 → KeepsTo logged.session (last_line pending) (payloads_in rig) mid new file result
-    → (flow : Flow) → old_flow ≡ Some flow → KeepsTo start (all_lines (lines_of flow.left)) [] old new file result
-reading-end-keeps old_flow mid_flow new_flow old mid new rig logged pending buffer file result some reading gives keeps flow is =
-    let read = read-none flow reading.bytes mid_flow new_flow buffer some (reading.told flow is) gives in
-    let ended = (lines_of reading.bytes).ended in
-    let parts : all_lines (lines_of flow.left) ≡ ended ++ last_line pending = ap (λ bytes. all_lines (lines_of bytes)) read.0 ∙ ap (λ last. ended ++ last_line last) (sym reading.feeds.pending) in
-    let kept = subst (λ (before : List (List ℕ)). KeepsTo logged.session (last_line pending) before mid new file result) reading.log.payloads keeps in
-    subst (λ (lines : List (List ℕ)). KeepsTo start lines [] old new file result) (sym parts)
-    (to-behind start logged.session reading.feeds.text ended (last_line pending) [] old mid new file result reading.feeds.outcome reading.feeds.printed kept)
-
--- a line that can't end within the room that is left isn't accepted
-too-long-accepted : (next : Session) (byte : ℕ) (bytes rest : List ℕ) → IsOpen (byte ∷ bytes) → next.room < length (byte ∷ bytes) → accepted_lines next (all_lines (lines_of ((byte ∷ bytes) ++ rest))) ≡ []
-unfolding on_line accepted_line accepted_lines
-too-long-accepted next byte bytes rest open_line over =
-    let first = first-line byte bytes rest open_line in
-    let longer : length (byte ∷ (bytes ++ first.0)) ≡ length (byte ∷ bytes) + length first.0 = length-append (byte ∷ bytes) first.0 in
-    let over_room : nat_lt next.room (length (byte ∷ (bytes ++ first.0))) ≡ true = grind (arith, over, longer) in
-    rw first.2 (rw over_room refl)
-
-limit-accepted : (next : Session) (line rest : List ℕ) → IsOpen line → next.room < length line → accepted_lines next (all_lines (lines_of (line ++ rest))) ≡ []
-limit-accepted next [] rest h k = absurd (omega (arith, k))
-limit-accepted next (byte ∷ bytes) rest h k = too-long-accepted next byte bytes rest h k
-
--- what is pending passes the limit of a script
-pub over-limit-keeps : (session next : Session) (bytes kept : List ℕ) (before : List (List ℕ)) (old new : Option (List ℕ)) (end line : ℕ) (rig : MemoryRig) → Feeds session bytes old new next kept → next.room < length kept → Logs before (accepted_lines session (lines_of bytes).ended) end rig → KeepsWithin session bytes before old new rig.a.bytes (Script line)
-over-limit-keeps session next bytes kept before old new end line rig feeds over log = λ rest.
-    let none = limit-accepted next kept rest (feeds-open session next bytes kept old new feeds) over in
-    let all : accepted_lines session (all_lines (lines_of (bytes ++ rest))) ≡ accepted_lines session (lines_of bytes).ended =
-    ap (accepted_lines session) (lines-behind bytes kept rest feeds.pending)
-    ∙ accepted-goes session next feeds.text (lines_of bytes).ended (all_lines (lines_of (kept ++ rest))) feeds.outcome
-    ∙ ap (λ more. accepted_lines session (lines_of bytes).ended ++ more) none
-    ∙ append-nil _ in
-    subst (λ (added : List (List ℕ)). StandsFor (before ++ added) rig.a.bytes) (sym all) (logs-stands before _ end rig log)
-
--- nothing was run for want of memory
-pub nothing-keeps : (flow : Flow) (old : Option (List ℕ)) (file : List ℕ) → StandsFor [] file → Keeps start (all_lines (lines_of flow.left)) [] old old file Memory
-nothing-keeps flow old file stands = inl (cut-nothing start (all_lines (lines_of flow.left)) [] old file stands)
+pub moved-lengths : (a b c d : List ℕ) → a ++ b ≡ c ++ d → length a + length b ≡ length c + length d
+moved-lengths a b c d is = sym (length-append a b) ∙ ap length is ∙ length-append c d

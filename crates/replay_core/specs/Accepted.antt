@@ -1,34 +1,37 @@
 -- What the journal of a script's run has to hold: the accepted lines.
-use Rattle.std.specs.Prelude.{ℕ, List, [], ◌∷◌, ◌++◌, Option, Some, None, length, nat_lt, if◌then◌else◌}
-use Rattle.kinds.specs.declared.refusal.Refusal.{Refusal}
+use Rattle.std.specs.Prelude.{ℕ, List, [], ◌∷◌, ◌++◌, Bool, false, Option, Some, length, nat_lt, if◌then◌else◌}
+use Rattle.std.specs.Option.{is_none}
 use Rattle.machine_model.specs.Machine.{refusal}
 use Rattle.machine_model.specs.State.{State}
 use Rattle.replay_core.specs.Line.{read_line}
 use Rattle.replay_core.specs.Pieces.{text_of_line}
-use Rattle.replay_core.specs.Replay.{Outcome, Goes, Stops, Session, on_line}
+use Rattle.replay_core.specs.Replay.{Outcome, Goes, Stops, Progress, on_line}
 use Rattle.replay_core.specs.declared.line.Line.{Line}
 use Rattle.replay_core.specs.declared.line.Line.TheVariants as line
+use Rattle.requests.specs.declared.requested.Requested.TheVariants as requested
 
--- the text of an input's line, where the input isn't refused
-abbrev pub unless_refused : List ℕ → Option Refusal → List (List ℕ)
-unless_refused text None = text ∷ []
-unless_refused text (Some cause) = []
+-- an input is accepted where it isn't refused
+abbrev pub is_accepted : State → Option Line → Bool
+is_accepted state (Some (line.Asks (requested.Input input))) = is_none (refusal state input)
+is_accepted state _ = false
 
--- An accepted input is kept as the text of its line. What isn't an input is not kept.
-abbrev pub accepted_as : State → List ℕ → Option Line → List (List ℕ)
-accepted_as state text (Some (line.Input input)) = unless_refused text (refusal state input)
-accepted_as state text _ = []
+-- an accepted line, without the byte that ends it
+abbrev pub line_where : Bool → List ℕ → List (List ℕ)
+line_where accepted line = if accepted then text_of_line line ∷ [] else []
 
--- what a line adds, without the byte that ends it
-unfoldable pub accepted_line : Session → List ℕ → List (List ℕ)
-accepted_line session line = if nat_lt session.room (length line) then [] else accepted_as session.state (text_of_line line) (read_line (text_of_line line))
+-- what a line adds; one that passes the limit of a whole script is outside the grammar
+unfoldable pub accepted_line : Progress → List ℕ → List (List ℕ)
+accepted_line progress line =
+    if nat_lt progress.room (length line) then []
+    else line_where (is_accepted progress.state (read_line (text_of_line line))) line
 
 -- a run that goes on adds this next, and one that has ended no more
-abbrev pub added_next : Outcome → (Session → List (List ℕ)) → List (List ℕ)
-added_next (Goes session text) next = next session
+abbrev pub added_next : Outcome → (Progress → List (List ℕ)) → List (List ℕ)
+added_next (Goes progress text) next = next progress
 added_next (Stops ending text) next = []
 
 -- the accepted lines of a run, in order
-unfoldable pub accepted_lines : Session → List (List ℕ) → List (List ℕ)
-accepted_lines session [] = []
-accepted_lines session (line ∷ lines) = accepted_line session line ++ added_next (on_line session line) (λ next. accepted_lines next lines)
+unfoldable pub accepted_lines : Progress → List (List ℕ) → List (List ℕ)
+accepted_lines progress [] = []
+accepted_lines progress (line ∷ lines) =
+    accepted_line progress line ++ added_next (on_line progress line) (λ next. accepted_lines next lines)

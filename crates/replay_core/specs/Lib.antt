@@ -1,6 +1,9 @@
 pub mod Accepted
-pub mod Kept
+pub mod Ends
 pub mod Line
+pub mod Log
 pub mod Pieces
+pub mod Reading
 pub mod Replay
 pub mod Run
+pub mod Script

@@ -1,17 +1,17 @@
 -- The grammar of a script's lines.
-use Rattle.std.specs.Prelude.{ℕ, Bool, true, false, not, ◌&&◌, List, [], ◌∷◌, Option, Some, None, Result, Ok, Err, ◌==◌, nat_le, if◌then◌else◌, codes, ◌+◌, position, take, drop}
+use Rattle.std.specs.Prelude.{ℕ, Bool, true, false, not, ◌&&◌, List, [], ◌∷◌, Option, Some, None}
+use Rattle.std.specs.Prelude.{◌==◌, nat_le, if◌then◌else◌, codes, ◌+◌, position, take, drop}
 use Rattle.std.specs.List.{list_all}
 use Rattle.std.specs.Option.{option_and_then, option_map}
 use Rattle.std.specs.Result.{result_ok}
 use Rattle.std.specs.Str.{bytes_eq}
-use Rattle.intake.specs.Events.{events_in_body, fault_answer}
-use Rattle.intake.specs.declared.fault.IntakeFault.{IntakeFault}
-use Rattle.kinds.specs.Answer.{ids_answer}
 use Rattle.kinds.specs.declared.event.EventIn.{EventIn}
 use Rattle.kinds.specs.declared.input.Input.TheVariants.{Events}
 use Rattle.text_num.specs.Digits.{u64_of}
 use Rattle.replay_core.specs.declared.line.Line.{Line}
-use Rattle.replay_core.specs.declared.line.Line.TheVariants.{Passed, Input, Answered}
+use Rattle.replay_core.specs.declared.line.Line.TheVariants.{Passed, Asks}
+use Rattle.requests.specs.Requests.{events_request}
+use Rattle.requests.specs.declared.requested.Requested.TheVariants.{Input}
 
 -- a word up to the first space, and what stands behind that space, where there is one
 pub record Split : Type 0 where
@@ -44,30 +44,30 @@ event_named name id = record { name = name; content = codes "{}"; id = id; ts = 
 
 -- `NAME ID`
 abbrev pub event_of : List ℕ → Option EventIn
-event_of text = let name = (split_word text).word in option_and_then (λ id. if is_name name && is_name id then Some (event_named name (id_of id)) else None) (split_word text).rest
+event_of text =
+    let name = (split_word text).word in
+    option_and_then (λ id. if is_name name && is_name id then Some (event_named name (id_of id)) else None) (split_word text).rest
 
--- a request without events is answered at once
-abbrev pub request_line : ℕ → List EventIn → Line
-request_line at [] = Answered (ids_answer [])
-request_line at (event ∷ events) = Input (Events at (event ∷ events))
+-- `MS EVENT NAME ID`, from its name on
+abbrev pub event_line : ℕ → List ℕ → Option Line
+event_line at text = option_map (λ event. Asks (Input (Events at (event ∷ [])))) (event_of text)
 
--- a request whose body gives these events or is refused
-abbrev pub read_request : ℕ → Result (List EventIn) IntakeFault → Option Line
-read_request at (Ok events) = Some (request_line at events)
-read_request at (Err fault) = option_map Answered (fault_answer fault)
+-- `MS EVENTS BODY`, from its body on; want of memory has no answer
+abbrev pub events_line : ℕ → List ℕ → Option Line
+events_line at body = option_map Asks (events_request at body)
 
 -- what stands behind `MS` and its space
 abbrev pub at_reading : ℕ → List ℕ → Option Line
 at_reading at text =
-    if bytes_eq (split_word text).word (codes "EVENT")
-    then option_map (λ event. Input (Events at (event ∷ []))) (option_and_then event_of (split_word text).rest)
-    else if bytes_eq (split_word text).word (codes "EVENTS")
-    then option_and_then (λ body. read_request at (events_in_body body)) (split_word text).rest
+    let kind = (split_word text).word in
+    if bytes_eq kind (codes "EVENT") then option_and_then (event_line at) (split_word text).rest
+    else if bytes_eq kind (codes "EVENTS") then option_and_then (events_line at) (split_word text).rest
     else None
 
 -- `MS` and what stands behind it
 abbrev pub timed_line : List ℕ → Option Line
-timed_line text = option_and_then (λ at. option_and_then (at_reading at) (split_word text).rest) (result_ok (u64_of (split_word text).word))
+timed_line text =
+    option_and_then (λ at. option_and_then (at_reading at) (split_word text).rest) (result_ok (u64_of (split_word text).word))
 
 -- an empty line, or one that begins with `#` (35)
 abbrev pub is_passed : List ℕ → Bool

@@ -1,5 +1,5 @@
 -- A script's bytes as lines.
-use Rattle.std.specs.Prelude.{ℕ, List, [], ◌∷◌, ◌++◌, ◌==◌, if◌then◌else◌, Option, Some, None, position, take}
+use Rattle.std.specs.Prelude.{ℕ, List, [], ◌∷◌, ◌++◌, ◌==◌, ◌≡◌, if◌then◌else◌, Option, Some, None, position, take}
 
 -- the byte that ends a line
 abbrev pub line_feed : ℕ
@@ -38,3 +38,11 @@ text_up_to line (Some place) = take place line
 
 abbrev pub text_of_line : List ℕ → List ℕ
 text_of_line line = text_up_to line (position (λ byte. byte == line_feed) line)
+
+-- one line with the byte that ends it
+abbrev pub IsEnded : List ℕ → Type 0
+IsEnded line = lines_of line ≡ record { ended = line ∷ []; last = [] }
+
+-- the front of a line
+abbrev pub IsUnended : List ℕ → Type 0
+IsUnended line = lines_of line ≡ record { ended = []; last = line }

@@ -1,6 +1,9 @@
-use journal_core::JournalFault;
-use kinds::Memory;
-use rig::{DiskFailed, ReadFailed, WriteFailed};
+// How the run of a script ends, and why it breaks off: at a line, and over its whole way.
+ghost use Rattle.std.specs.Prelude.{◌≡◌};
+ghost use Rattle.replay_core.specs.Ends.{end_of, unwritten};
+
+use lists::Memory;
+use rig::{ReadFailed, WriteFailed};
 
 /// How the run of a script ended.
 #[derive(Clone, Copy, Debug, PartialEq, Eq)]
@@ -19,58 +22,104 @@ pub enum ReplayEnd {
     Memory,
 }
 
-impl From<Memory> for ReplayEnd {
-    ghost use Rattle.std.specs.Prelude.{◌≡◌};
-    ghost use Rattle.replay_core.specs.declared.end.ReplayEnd.TheVariants as end;
+/// Why a run breaks off at a line.
+#[derive(Clone, Copy, Debug, PartialEq, Eq)]
+pub enum LineFault {
+    /// This line, counted from 1, is outside the grammar.
+    Outside { line: u64 },
+    /// The machine takes no further input.
+    Spent,
+    /// No memory was to be had.
+    Memory,
+}
 
-    ghost from_gives = { λ _ e. e ≡ end.Memory };
+/// Why a run breaks off.
+#[derive(Clone, Copy, Debug, PartialEq, Eq)]
+pub enum RunFault {
+    /// The source failed, and counted it.
+    Source,
+    /// The sink failed, and counted it.
+    Sink,
+    /// It broke off at a line, or for want of memory.
+    Line(LineFault),
+}
+
+/// How a run ended that went through or broke off.
+pub fn end_of(ran: Result<(), RunFault>) -> ReplayEnd
+    ensures { result ≡ end_of ran }
+{
+    match ran {
+        Ok(()) => ReplayEnd::Done,
+        Err(RunFault::Source) => ReplayEnd::ReadFault,
+        Err(RunFault::Sink) => ReplayEnd::WriteFault,
+        Err(RunFault::Line(LineFault::Outside { line })) => ReplayEnd::Script { line },
+        Err(RunFault::Line(LineFault::Spent)) => ReplayEnd::NumbersSpent,
+        Err(RunFault::Line(LineFault::Memory)) => ReplayEnd::Memory,
+    }
+}
+
+/// The end of a run whose last write fails. A run that found no memory stays one.
+pub fn unwritten(end: ReplayEnd) -> ReplayEnd
+    ensures { result ≡ unwritten end }
+{
+    match end {
+        ReplayEnd::Memory => ReplayEnd::Memory,
+        _ => ReplayEnd::WriteFault,
+    }
+}
+
+impl From<Memory> for LineFault {
+    ghost use Rattle.std.specs.Prelude.{◌≡◌};
+    ghost use Rattle.replay_core.specs.declared.end.LineFault.TheVariants as line;
+
+    ghost from_gives = { λ _ e. e ≡ line.Memory };
 
     fn from(_error: Memory) -> Self {
-        ReplayEnd::Memory
+        LineFault::Memory
     }
 }
 
-impl From<ReadFailed> for ReplayEnd {
+impl From<Memory> for RunFault {
     ghost use Rattle.std.specs.Prelude.{◌≡◌};
-    ghost use Rattle.replay_core.specs.declared.end.ReplayEnd.TheVariants as end;
+    ghost use Rattle.replay_core.specs.declared.end.LineFault.TheVariants as line;
+    ghost use Rattle.replay_core.specs.declared.end.RunFault.TheVariants as run;
 
-    ghost from_gives = { λ _ e. e ≡ end.ReadFault };
+    ghost from_gives = { λ _ e. e ≡ run.Line line.Memory };
+
+    fn from(_error: Memory) -> Self {
+        RunFault::Line(LineFault::Memory)
+    }
+}
+
+impl From<LineFault> for RunFault {
+    ghost use Rattle.std.specs.Prelude.{◌≡◌};
+    ghost use Rattle.replay_core.specs.declared.end.RunFault.TheVariants as run;
+
+    ghost from_gives = { λ fault e. e ≡ run.Line fault };
+
+    fn from(fault: LineFault) -> Self {
+        RunFault::Line(fault)
+    }
+}
+
+impl From<ReadFailed> for RunFault {
+    ghost use Rattle.std.specs.Prelude.{◌≡◌};
+    ghost use Rattle.replay_core.specs.declared.end.RunFault.TheVariants as run;
+
+    ghost from_gives = { λ _ e. e ≡ run.Source };
 
     fn from(_error: ReadFailed) -> Self {
-        ReplayEnd::ReadFault
+        RunFault::Source
     }
 }
 
-impl From<WriteFailed> for ReplayEnd {
+impl From<WriteFailed> for RunFault {
     ghost use Rattle.std.specs.Prelude.{◌≡◌};
-    ghost use Rattle.replay_core.specs.declared.end.ReplayEnd.TheVariants as end;
+    ghost use Rattle.replay_core.specs.declared.end.RunFault.TheVariants as run;
 
-    ghost from_gives = { λ _ e. e ≡ end.WriteFault };
+    ghost from_gives = { λ _ e. e ≡ run.Sink };
 
     fn from(_error: WriteFailed) -> Self {
-        ReplayEnd::WriteFault
-    }
-}
-
-// The disk of a script's run lies in memory, and a call on it fails only for want of that.
-impl From<DiskFailed> for ReplayEnd {
-    ghost use Rattle.std.specs.Prelude.{◌≡◌};
-    ghost use Rattle.replay_core.specs.declared.end.ReplayEnd.TheVariants as end;
-
-    ghost from_gives = { λ _ e. e ≡ end.Memory };
-
-    fn from(_error: DiskFailed) -> Self {
-        ReplayEnd::Memory
-    }
-}
-
-impl From<JournalFault> for ReplayEnd {
-    ghost use Rattle.std.specs.Prelude.{◌≡◌};
-    ghost use Rattle.replay_core.specs.declared.end.ReplayEnd.TheVariants as end;
-
-    ghost from_gives = { λ _ e. e ≡ end.Memory };
-
-    fn from(_error: JournalFault) -> Self {
-        ReplayEnd::Memory
+        RunFault::Sink
     }
 }

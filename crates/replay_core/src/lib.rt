@@ -1,7 +1,7 @@
 //! Scripts: reads the lines of a source, runs them through the machine, keeps the accepted ones in a
-//! journal, and prints what the machine says. Stands on `machine`, `journal_core` and `rig`, and promises
-//! that what is printed and how the run ends is what the documented machine makes of the script, however
-//! the source cuts it, and that a line is in the journal before its answer is printed.
+//! journal, and prints what the machine says. Stands on `machine`, `requests`, `journal_core` and `rig`,
+//! and promises that what is printed and how the run ends is what the documented machine makes of the
+//! script, however the source cuts it, and that a line is in the journal before its answer is printed.
 #![tactic(auto)]
 
 mod bytes;
@@ -9,9 +9,11 @@ mod end;
 mod laws;
 mod line;
 mod log;
+mod logged;
 mod printing;
+mod progress;
+mod reader;
 mod script;
-mod session;
 
 pub use end::ReplayEnd;
 pub use laws::accepted_lines_go_on;

@@ -1,15 +1,15 @@
-ghost use Rattle.std.specs.Prelude.{◌≡◌, ◌∷◌, [], IfOk};
+// Reads the lines of a script.
+ghost use Rattle.std.specs.Prelude.{◌≡◌, IfOk};
 ghost use Rattle.std.specs.List.{list_all};
-ghost use Rattle.std.specs.Option.{option_copied, option_map};
-ghost use Rattle.replay_core.specs.Line.{Split, at_reading, event_named, event_of, id_of, is_name, is_name_byte, is_passed, read_line, read_request, request_line, split_word, timed_line};
-ghost use Rattle.intake.specs.Events.{events_in_body};
+ghost use Rattle.std.specs.Option.{option_copied};
+ghost use Rattle.replay_core.specs.Line.{Split, at_reading, event_line, event_named, event_of, events_line, id_of};
+ghost use Rattle.replay_core.specs.Line.{is_name, is_name_byte, is_passed, read_line, split_word, timed_line};
 ghost use Rattle.replay_core.specs.Pieces.{text_of_line};
-ghost use Rattle.kinds.specs.declared.input.Input.TheVariants.{Events};
-ghost use Rattle.replay_core.specs.declared.line.Line.TheVariants.{Input as TakesInput};
 
 use crate::bytes::find_byte;
-use intake::read_events;
-use kinds::{Bytes, EventIn, Input, Items, Memory, Out, ids_answer};
+use kinds::{EventIn, Input};
+use lists::{Bytes, Items, Memory};
+use requests::{Requested, read_events_request};
 use std::alloc::Global;
 use text_num::read_u64;
 
@@ -18,10 +18,8 @@ use text_num::read_u64;
 pub enum Line {
     /// An empty line or a comment, which is passed over.
     Passed,
-    /// An input of the machine.
-    Input(Input),
-    /// A request that is answered at once: it is refused, or has no events.
-    Answered(Out),
+    /// What a request comes to: an input of the machine, or an answer that is given at once.
+    Asks(Requested),
 }
 
 /// What stands in a line before the byte that ends it.
@@ -73,34 +71,22 @@ fn line_at(alloc: Global, at: u64, text: &[u8]) -> Result<Option<Line>, Memory>
 
 // The body of a request of events.
 fn events_line(alloc: Global, at: u64, body: &[u8]) -> Result<Option<Line>, Memory>
-    ensures { IfOk result (λ line. line ≡ read_request at (events_in_body body.now)) }
+    ensures { IfOk result (λ line. line ≡ events_line at body.now) }
 {
-    match read_events(alloc, body) {
-        Ok(events) => Ok(Some(request_line(alloc, at, events)?)),
-        Err(fault) => Ok(Some(Line::Answered(fault.answer(alloc)?))),
-    }
-}
-
-// A request without events is no input.
-fn request_line(alloc: Global, at: u64, events: Items<EventIn>) -> Result<Line, Memory>
-    ensures { IfOk result (λ line. line ≡ request_line at events) }
-{
-    if events.is_empty() {
-        return Ok(Line::Answered(ids_answer(alloc, &[])?));
-    }
-    Ok(Line::Input(Input::Events { at, events }))
+    let requested = read_events_request(alloc, at, body)?;
+    Ok(Some(Line::Asks(requested)))
 }
 
 // `NAME ID`.
 fn event_line(alloc: Global, at: u64, text: &[u8]) -> Result<Option<Line>, Memory>
-    ensures { IfOk result (λ line. line ≡ option_map (λ event. TakesInput (Events at (event ∷ []))) (event_of text.now)) }
+    ensures { IfOk result (λ line. line ≡ event_line at text.now) }
 {
     let (name, rest) = split_word(text);
     match rest {
         Some(id) if is_name(name) && is_name(id) => {
             let mut events = Items::new(alloc);
             events.push(event_named(alloc, name, id)?)?;
-            Ok(Some(Line::Input(Input::Events { at, events })))
+            Ok(Some(Line::Asks(Requested::Input(Input::Events { at, events }))))
         }
         _ => Ok(None),
     }

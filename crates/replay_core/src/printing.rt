@@ -1,69 +1,57 @@
-ghost use Rattle.std.specs.Prelude.{◌≡◌, IfOk, flat_map};
+// The lines that a script's run prints, as texts.
+ghost use Rattle.std.specs.Prelude.{◌≡◌, ◌++◌, IfOk, OnOk, OnErr, flat_map};
 ghost use Rattle.replay_core.specs.Replay.{end_line, printed};
-ghost use Rattle.replay_core.specs.Run.{CountsFault, Prints};
 
-use crate::ReplayEnd;
-use kinds::{Bytes, Memory, Out};
+use kinds::Out;
+use lists::{Bytes, Memory};
 use machine::Machine;
-use rig::Sink;
 use std::alloc::Global;
 
-/// Prints what a step says, a line for each, in order.
-pub fn print_outs<O: Sink>(alloc: Global, outs: &[Out], sink: &mut O) -> Result<(), ReplayEnd>
-    ensures printed { Prints (flat_map printed outs.now) (O.written sink.old) (O.written sink.new) result }
-    ensures faults { CountsFault (O.faults sink.old) (O.faults sink.new) result }
+/// What a step says, a line for each, in order.
+pub fn outs_text(alloc: Global, outs: &[Out]) -> Result<Bytes, Memory>
+    ensures { IfOk result (λ text. text ≡ flat_map printed outs.now) }
 {
+    let mut text = Bytes::new(alloc);
     for out in outs {
-        print_out(alloc, out, sink)?;
+        push_out(out, &mut text)?;
     }
-    Ok(())
+    Ok(text)
 }
 
-pub fn print_out<O: Sink>(alloc: Global, out: &Out, sink: &mut O) -> Result<(), ReplayEnd>
-    ensures printed { Prints (printed out.now) (O.written sink.old) (O.written sink.new) result }
-    ensures faults { CountsFault (O.faults sink.old) (O.faults sink.new) result }
+/// One line.
+pub fn out_text(alloc: Global, out: &Out) -> Result<Bytes, Memory>
+    ensures { IfOk result (λ text. text ≡ printed out.now) }
 {
-    let line = out_line(alloc, out)?;
-    sink.write(line.as_slice())?;
-    Ok(())
-}
-
-/// Prints the last line of a script's run.
-pub fn print_end<O: Sink>(alloc: Global, machine: &Machine, sink: &mut O) -> Result<(), ReplayEnd>
-    ensures printed { Prints (end_line machine.now) (O.written sink.old) (O.written sink.new) result }
-    ensures faults { CountsFault (O.faults sink.old) (O.faults sink.new) result }
-{
-    let line = end_line(alloc, machine)?;
-    sink.write(line.as_slice())?;
-    Ok(())
+    let mut text = Bytes::new(alloc);
+    push_out(out, &mut text)?;
+    Ok(text)
 }
 
 // `answer STATUS BODY`.
-fn out_line(alloc: Global, out: &Out) -> Result<Bytes, Memory>
-    ensures { IfOk result (λ line. line ≡ printed out.now) }
+fn push_out(out: &Out, text: &mut Bytes) -> Result<(), Memory>
+    ensures { OnOk result (text.new ≡ text.old ++ printed out.now) }
 {
     match out {
         Out::Answer { status, body } => {
-            let mut line = Bytes::from_slice(alloc, b"answer ")?;
-            line.push_decimal(u64::from(*status))?;
-            line.push(b' ')?;
-            line.extend_from_slice(body.as_slice())?;
-            line.push(b'\n')?;
-            Ok(line)
+            text.extend_from_slice(b"answer ")?;
+            text.push_decimal(u64::from(*status))?;
+            text.push(b' ')?;
+            text.extend_from_slice(body.as_slice())?;
+            text.push(b'\n')
         }
     }
 }
 
-// `end inputs=N live=L moment=M`.
-fn end_line(alloc: Global, machine: &Machine) -> Result<Bytes, Memory>
-    ensures { IfOk result (λ line. line ≡ end_line machine.now) }
+/// The last line of a script's run: `end inputs=N live=L moment=M`.
+pub fn end_line(alloc: Global, machine: &Machine) -> Result<Bytes, Memory>
+    ensures { IfOk result (λ text. text ≡ end_line machine.now) }
 {
-    let mut line = Bytes::from_slice(alloc, b"end inputs=")?;
-    line.push_decimal(machine.inputs())?;
-    line.extend_from_slice(b" live=")?;
-    line.push_decimal(machine.live())?;
-    line.extend_from_slice(b" moment=")?;
-    line.push_decimal(machine.moment())?;
-    line.push(b'\n')?;
-    Ok(line)
+    let mut text = Bytes::from_slice(alloc, b"end inputs=")?;
+    text.push_decimal(machine.inputs())?;
+    text.extend_from_slice(b" live=")?;
+    text.push_decimal(machine.live())?;
+    text.extend_from_slice(b" moment=")?;
+    text.push_decimal(machine.moment())?;
+    text.push(b'\n')?;
+    Ok(text)
 }

@@ -1,7 +1,7 @@
 -- How claims on what a rig tells are joined: two steps to one, and what holds of each moment.
-use Rattle.std.proofs.Common.{◌∙◌, List, [], ◌∷◌, ◌++◌, append_assoc, ap, sym, subst, refl}
+use Rattle.std.proofs.Common.{◌∙◌, List, [], ◌∷◌, ◌++◌, append_assoc, ap, sym}
 use Rattle.std.specs.List.{AllByRecursion}
-use Rattle.rig.specs.Told.{Moment, History, moments_of, IsStep, GoesOn, StillTells, WhereTold, HasOneNow, Since, Then}
+use Rattle.rig.specs.Told.{Moment, History, moments_of, IsStep, GoesOn, StillTells, Since, Then}
 
 -- one step and then another
 pub then : {R : Type 0} {tells : R → History → Type 0} {a b c : R} {first second : History → History → Type 0} → GoesOn tells a b first → GoesOn tells b c second → GoesOn tells a c (Then tells b first second)
@@ -28,27 +28,9 @@ into_told h g = record {
   back = g.back;
 }
 
--- no call at all
-pub goes_nowhere : {R : Type 0} {tells : R → History → Type 0} {a : R} (step : History → History → Type 0) → ((history : History) → step history history) → GoesOn tells a a step
-goes_nowhere step h = record {
-  each = λ history at_a told at_b. (history, at_a, h history);
-  back = λ told at_b. (told, at_b);
-}
-
--- what holds of the present after a step, where it is told
-pub each_now : {R : Type 0} {tells : R → History → Type 0} {a b : R} {step : History → History → Type 0} (P : Moment → Type 0) → HasOneNow tells b → GoesOn tells a b step → ((old new : History) → tells a old → step old new → P new.now) → WhereTold tells b P
-each_now P one_now g h told at_b =
-    let before = g.back told at_b in
-    let later = g.each before.0 before.1 told at_b in
-    subst P (one_now later.0 told later.1 at_b) (h before.0 later.0 before.1 later.2)
-
 -- telling goes on over two calls
 pub still_then : {R : Type 0} (tells : R → History → Type 0) (a b c : R) → StillTells tells a b → StillTells tells b c → StillTells tells a c
 still_then tells a b c f s history at_a = let middle = f history at_a in s middle.0 middle.1
-
--- nothing was added
-pub since_now : {P : Moment → Type 0} (h : History) → Since P h h
-since_now h = record { added = []; goes_on = refl; each = tt }
 
 -- one step was made, after which P holds
 pub since_step : {P : Moment → Type 0} {change : Moment → Moment → Type 0} {old new : History} → IsStep change old new → P new.now → Since P old new
@@ -68,10 +50,3 @@ since_since {P = P} {a = a} f s = record {
   goes_on = s.goes_on ∙ (ap (λ (ms : List Moment). s.added ++ ms) f.goes_on ∙ sym (append_assoc s.added f.added (moments_of a)));
   each = all_both P s.added f.added s.each f.each;
 }
-
-all_weaker : (P Q : Moment → Type 0) → ((m : Moment) → P m → Q m) → (xs : List Moment) → AllByRecursion P xs → AllByRecursion Q xs
-all_weaker P Q h [] p = tt
-all_weaker P Q h (x ∷ xs) p = (h x p.0, all_weaker P Q h xs p.1)
-
-pub since_weaker : {P Q : Moment → Type 0} {old new : History} → ((m : Moment) → P m → Q m) → Since P old new → Since Q old new
-since_weaker {P = P} {Q = Q} h s = record { added = s.added; goes_on = s.goes_on; each = all_weaker P Q h s.added s.each }

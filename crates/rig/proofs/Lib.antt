@@ -1,4 +1,4 @@
-mod FailedWrites
+pub mod FaultLemmas
 pub mod Histories
 pub mod Images
 mod MemoryFiles
@@ -6,5 +6,6 @@ pub mod MemoryMoments
 mod MemoryRigSteps
 mod Overwritten
 mod Pieces
+mod Rows
 mod Undo
 pub mod WrittenLemmas

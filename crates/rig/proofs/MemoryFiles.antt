@@ -3,8 +3,8 @@ use Rattle.std.proofs.Common.{◌≡◌, ◌<◌, ◌≤◌, ◌+◌, ◌-◌, �
 use Rattle.std.specs.List.{AllByRecursion}
 use Rattle.std.proofs.lemmas.List.{take-append-drop, length-take, length-append, length-replicate, get_or-take, get_or_append_left}
 use Rattle.rig.specs.Disk.{File, IsUntouched, IsImage, IsSound, settled, overwritten, write_begun, cut_done}
-use Rattle.rig.specs.MemoryFile.{MemoryFile, undone, ranges_of, file_in, settled_file, wrote, was_cut, put_at, halved, image_of, IsBelow, IsKept}
-use Rattle.kinds.specs.declared.memory.Memory.{Memory}
+use Rattle.rig.specs.MemoryFile.{MemoryFile, undone, ranges_of, file_in, wrote, was_cut, put_at, halved, image_of, IsBelow, IsKept}
+use Rattle.lists.specs.declared.memory.Memory.{Memory}
 use Rattle.rig.specs.declared.memory_file.Change.{Change}
 use Rattle.rig.specs.declared.memory_file.Change.TheVariants.{Wrote, Cut}
 use Rattle.rig.specs.declared.memory_file.Image.{Image}
@@ -117,9 +117,6 @@ kept-was_cut len file kept inside = record {
   below = below_more file.most file.most file.changes (Cut (drop len file.bytes)) (omega arith) kept.below tt;
 }
 
-pub kept-settled_file : (bytes : List ℕ) → length bytes < 9223372036854775808 → IsKept (settled_file bytes)
-kept-settled_file bytes fits = record { sound = sound-settled bytes fits; below = tt }
-
 -- bytes at an offset, elsewhere all stays
 length-put_at : (at : ℕ) (bytes file : List ℕ) → (length file ≤ length (put_at at bytes file)) × (length (put_at at bytes file) ≤ max (length file) (at + length bytes))
 length-put_at at [] file = (omega arith, omega arith)
@@ -160,7 +157,7 @@ get_or-halved (Wrote at count bytes before ∷ changes) most file place below in
     ∙ get_or-put_at at count half file place inside (half_fits bytes count below.0.1) untouched.0
 get_or-halved (Cut removed ∷ changes) most file place below inside untouched = get_or-halved changes most file place below.1 inside untouched
 
--- What a stop leaves of a file in memory is what the disk's model allows.
+-- What a crash leaves of a file in memory is what the disk's model allows.
 pub image_of-allowed : (image : Image) (file : MemoryFile) → IsKept file → IsImage (file_in file) (image_of image file)
 image_of-allowed Kept file kept = kept.sound.kept
 image_of-allowed Whole file kept = kept.sound.reads

@@ -1,4 +1,4 @@
--- The disk: two files, what a read of each gives, and what a stop may leave of it.
+-- The disk: two files, what a read of each gives, and what a crash may leave of it.
 use Rattle.std.specs.Prelude.{ℕ, ◌≡◌, ◌<◌, ◌≤◌, ◌+◌, ◌⊎◌, List, [], ◌∷◌, ◌++◌, length, take, drop, slice_index, min, max, Result, OnOk, OnErr}
 use Rattle.std.specs.List.{AllByRecursion}
 use Rattle.rig.specs.declared.side.Side.{Side}
@@ -15,12 +15,13 @@ pub record File : Type 0 where
 abbrev pub IsUntouched : List (ℕ × ℕ) → ℕ → Type 0
 IsUntouched written place = AllByRecursion (λ (w : ℕ × ℕ). (place < w.0) ⊎ (w.0 + w.1 ≤ place)) written
 
--- A stop may leave these bytes: a length that lies between, and what was kept wherever nothing was
+-- A crash may leave these bytes: a length that lies between, and what was kept wherever nothing was
 -- written or cut. All other places may hold any bytes.
 pub record IsImage (file : File) (image : List ℕ) : Type 0 where
   pub no_shorter : file.least ≤ length image
   pub no_longer : length image ≤ file.most
-  pub stays : (place : ℕ) → place < file.least → IsUntouched file.written place → slice_index image place ≡ slice_index file.kept place
+  pub stays : (place : ℕ) → place < file.least → IsUntouched file.written place
+      → slice_index image place ≡ slice_index file.kept place
 
 -- What a read gives and what was kept are images, and no image is longer than 2^63 - 1 bytes.
 pub record IsSound (file : File) : Type 0 where
@@ -28,9 +29,15 @@ pub record IsSound (file : File) : Type 0 where
   pub kept : IsImage file file.kept
   pub fits : file.most < 9223372036854775808
 
--- all of it is on the disk: a stop leaves what a read gives
+-- all of it is on the disk: a crash leaves what a read gives
 abbrev pub settled : List ℕ → File
-settled bytes = record { reads = bytes; kept = bytes; written = []; least = length bytes; most = length bytes }
+settled bytes = record {
+  reads = bytes;
+  kept = bytes;
+  written = [];
+  least = length bytes;
+  most = length bytes;
+}
 
 -- these bytes at this offset, in the place of what was there
 abbrev pub overwritten : ℕ → List ℕ → List ℕ → List ℕ
@@ -38,11 +45,15 @@ overwritten at bytes old = take at old ++ (bytes ++ drop (at + length bytes) old
 
 -- a write of so many bytes at this offset has begun
 abbrev pub write_begun : ℕ → ℕ → File → File
-write_begun at count file = record file { written = file.written ++ (at, count) ∷ []; most = max file.most (at + count) }
+write_begun at count file = record file {
+  written = file.written ++ (at, count) ∷ [];
+  most = max file.most (at + count);
+}
 
 -- and it is done
 abbrev pub write_done : ℕ → List ℕ → File → File
-write_done at bytes file = record (write_begun at (length bytes) file) { reads = overwritten at bytes file.reads }
+write_done at bytes file =
+    record (write_begun at (length bytes) file) { reads = overwritten at bytes file.reads }
 
 -- a cut to this length has begun
 abbrev pub cut_begun : ℕ → File → File
@@ -56,22 +67,26 @@ sync_done file = settled file.reads
 
 -- A call failed: the file is as it was, or the call had begun, and a read gives some image of that.
 abbrev pub BreaksOff : File → File → File → Type 0
-BreaksOff begun old new = (new ≡ old) ⊎ ((image : List ℕ) × IsImage begun image × (new ≡ record begun { reads = image }))
+BreaksOff begun old new =
+    (new ≡ old) ⊎ ((image : List ℕ) × IsImage begun image × (new ≡ record begun { reads = image }))
 
 -- These bytes were written at this offset. Of a steady rig a write that failed did nothing.
-pub record IsWritten {E : Type 0} (steady : Type 0) (at : ℕ) (bytes : List ℕ) (result : Result (Unit {0}) E) (old new : File) : Type 0 where
+pub record IsWritten {E : Type 0} (steady : Type 0) (at : ℕ) (bytes : List ℕ)
+    (result : Result (Unit {0}) E) (old new : File) : Type 0 where
   pub done : OnOk result (new ≡ write_done at bytes old)
   pub failed : OnErr result (BreaksOff (write_begun at (length bytes) old) old new)
   pub idle : OnErr result (steady → new ≡ old)
 
 -- the file was cut to this length
-pub record IsCut {E : Type 0} (steady : Type 0) (len : ℕ) (result : Result (Unit {0}) E) (old new : File) : Type 0 where
+pub record IsCut {E : Type 0} (steady : Type 0) (len : ℕ)
+    (result : Result (Unit {0}) E) (old new : File) : Type 0 where
   pub done : OnOk result (new ≡ cut_done len old)
   pub failed : OnErr result (BreaksOff (cut_begun len old) old new)
   pub idle : OnErr result (steady → new ≡ old)
 
 -- all of the file was brought to the disk
-pub record IsSynced {E : Type 0} (steady : Type 0) (result : Result (Unit {0}) E) (old new : File) : Type 0 where
+pub record IsSynced {E : Type 0} (steady : Type 0)
+    (result : Result (Unit {0}) E) (old new : File) : Type 0 where
   pub done : OnOk result (new ≡ sync_done old)
   pub failed : OnErr result (BreaksOff old old new)
   pub idle : OnErr result (steady → new ≡ old)
@@ -93,11 +108,7 @@ pub record IsSoundDisk (disk : Disk) : Type 0 where
   pub a : IsSound disk.a
   pub b : IsSound disk.b
 
--- a stop may leave these two files
+-- a crash may leave these two files
 pub record IsDiskImage (disk : Disk) (image_a image_b : List ℕ) : Type 0 where
   pub a : IsImage disk.a image_a
   pub b : IsImage disk.b image_b
-
--- two files, all of them on the disk
-abbrev pub settled_disk : List ℕ → List ℕ → Disk
-settled_disk a b = record { a = settled a; b = settled b }

@@ -72,7 +72,7 @@ halved [] file = file
 halved (Wrote at count bytes before ∷ newer) file = halved newer (put_at at (take (length bytes / 2) bytes) file)
 halved (Cut removed ∷ newer) file = halved newer file
 
--- what a stop leaves of the file
+-- what a crash leaves of the file
 abbrev pub image_of : Image → MemoryFile → List ℕ
 image_of Kept file = undone file.changes file.bytes
 image_of Whole file = file.bytes

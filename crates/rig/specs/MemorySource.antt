@@ -1,8 +1,8 @@
 -- A source in memory: what it gave and has left, and how it is set to behave.
-use Rattle.std.specs.Prelude.{ℕ, ◌==◌, Bool, List, [], length, min, Result, Ok, Err, if◌then◌else◌}
+use Rattle.std.specs.Prelude.{ℕ, ◌==◌, Bool, List, [], ◌∷◌, ◌++◌, length, min, Some, Result, Ok, Err, if◌then◌else◌}
 use Rattle.std.specs.List.{list_any}
 use Rattle.rig.specs.Faults.{one_more}
-use Rattle.rig.specs.Flow.{Flow, given_more}
+use Rattle.rig.specs.Flow.{Flow, Incoming, given_more}
 use Rattle.rig.specs.declared.source.ReadFailed.{ReadFailed}
 
 pub record MemorySource : Type 0 where
@@ -22,6 +22,13 @@ source_of bytes = record {
   faults = 0;
 }
 
+abbrev pub incoming_of : MemorySource → Incoming
+incoming_of source = record { flow = Some source.flow; faults = source.faults }
+
+-- one more read is set to fail
+abbrev pub with_failing : ℕ → MemorySource → MemorySource
+with_failing read source = record source { failing = source.failing ++ read ∷ [] }
+
 -- the next read is set to fail
 abbrev pub read_fails : MemorySource → Bool
 read_fails source = list_any (λ n. n == one_more source.reads) source.failing
@@ -39,4 +46,7 @@ abbrev pub after_read : MemorySource → ℕ → MemorySource
 after_read source room =
     if read_fails source
     then record source { reads = one_more source.reads; faults = one_more source.faults }
-    else record source { reads = one_more source.reads; flow = given_more (read_count source room) source.flow }
+    else record source {
+      reads = one_more source.reads;
+      flow = given_more (read_count source room) source.flow;
+    }

@@ -2,11 +2,12 @@
 -- heard, read of the clock, said and asked up to it.
 use Rattle.std.specs.Prelude.{ℕ, ◌≡◌, ◌≤◌, ◌+◌, ◌⊎◌, List, [], ◌∷◌, ◌++◌, length, take, drop, Result, IfOk}
 use Rattle.std.specs.List.{AllByRecursion}
-use Rattle.rig.specs.Disk.{Disk, File, file_of, with_file}
-use Rattle.rig.specs.Faults.{HasRisen}
+use Rattle.rig.specs.Disk.{Disk, File, IsWritten, IsCut, IsSynced, file_of, with_file}
+use Rattle.rig.specs.Faults.{Counts, after_starving}
 use Rattle.rig.specs.declared.entries.HeardEntry.{HeardEntry}
 use Rattle.rig.specs.declared.entries.SaidEntry.{SaidEntry}
 use Rattle.rig.specs.declared.entries.AskedEntry.{AskedEntry}
+use Rattle.rig.specs.declared.entries.AskedEntry.TheVariants.{Attach}
 use Rattle.rig.specs.declared.side.Side.{Side}
 
 pub record Moment : Type 0 where
@@ -37,16 +38,30 @@ Stays old new = new ≡ old
 abbrev pub NotesReading : ℕ → Moment → Moment → Type 0
 NotesReading reading old new = new ≡ record old { moments = old.moments ++ reading ∷ [] }
 
--- the rig was asked this: the entry was added, or want of memory of the rig's own was counted
-abbrev pub Asks : AskedEntry → ℕ → ℕ → Moment → Moment → Type 0
-Asks entry starved_old starved_new old new =
+-- the rig was asked this: the entry was added, or the rig was out of memory and counted that
+abbrev pub Asks : AskedEntry → Counts → Counts → Moment → Moment → Type 0
+Asks entry counts_old counts_new old new =
     (new ≡ record old { asked = old.asked ++ entry ∷ [] })
-    ⊎ ((new ≡ old) × HasRisen starved_old starved_new)
+    ⊎ ((new ≡ old) × (counts_new ≡ after_starving counts_old))
+
+-- it was asked for the files of a directory
+abbrev pub AsksAttach : List ℕ → Counts → Counts → Moment → Moment → Type 0
+AsksAttach dir counts_old counts_new = Asks (Attach dir) counts_old counts_new
 
 -- all stays but this one file, which changed so
 pub record OnFile (side : Side) (change : File → File → Type 0) (old new : Moment) : Type 0 where
   pub rest : new ≡ record old { disk = with_file side (file_of side new.disk) old.disk }
   pub file : change (file_of side old.disk) (file_of side new.disk)
+
+-- a write, a cut and a sync of one file
+abbrev pub WritesFile : {E : Type 0} → Side → Type 0 → ℕ → List ℕ → Result (Unit {0}) E → Moment → Moment → Type 0
+WritesFile side steady at bytes result = OnFile side (IsWritten steady at bytes result)
+
+abbrev pub CutsFile : {E : Type 0} → Side → Type 0 → ℕ → Result (Unit {0}) E → Moment → Moment → Type 0
+CutsFile side steady len result = OnFile side (IsCut steady len result)
+
+abbrev pub SyncsFile : {E : Type 0} → Side → Type 0 → Result (Unit {0}) E → Moment → Moment → Type 0
+SyncsFile side steady result = OnFile side (IsSynced steady result)
 
 -- what a read of the file gives, where it is told
 abbrev pub reads_of : Side → Moment → List ℕ
@@ -58,16 +73,23 @@ pub record IsSize {E : Type 0} (side : Side) (result : Result ℕ E) (old new : 
   pub size : IfOk result (λ len. len ≡ length (reads_of side old))
 
 -- all stays, and the next bytes of the file from this offset on are at the front of the buffer
-pub record IsRead {E : Type 0} (side : Side) (at : ℕ) (buffer : List ℕ) (result : Result ℕ E) (old new : Moment) : Type 0 where
+pub record IsRead {E : Type 0} (side : Side) (at : ℕ) (buffer : List ℕ)
+    (result : Result ℕ E) (old new : Moment) : Type 0 where
   pub rest : new ≡ old
   pub within : IfOk result (λ count. at + count ≤ length (reads_of side old))
   pub front : IfOk result (λ count. take count buffer ≡ take count (drop at (reads_of side old)))
 
 -- Of a rig that still tells: from each history that it told there is a later one that it tells, and
 -- the step leads there. What it tells now it began to tell before.
-pub record GoesOn {R : Type 0} (tells : R → History → Type 0) (old new : R) (step : History → History → Type 0) : Type 0 where
-  pub each : (history : History) → tells old history → (told : History) → tells new told → (later : History) × tells new later × step history later
+pub record GoesOn {R : Type 0} (tells : R → History → Type 0) (old new : R)
+    (step : History → History → Type 0) : Type 0 where
+  pub each : (history : History) → tells old history → (told : History) → tells new told
+      → (later : History) × tells new later × step history later
   pub back : (told : History) → tells new told → (history : History) × tells old history
+
+-- what one call, which changes the present so, adds to what is told
+abbrev pub OneCall : {R : Type 0} → (R → History → Type 0) → R → R → (Moment → Moment → Type 0) → Type 0
+OneCall tells old new change = GoesOn tells old new (IsStep change)
 
 -- a rig that tells goes on telling
 abbrev pub StillTells : {R : Type 0} → (R → History → Type 0) → R → R → Type 0
@@ -88,7 +110,8 @@ pub record Since (P : Moment → Type 0) (old new : History) : Type 0 where
   pub each : AllByRecursion P added
 
 -- One step and then another, with the history that was told between them.
-pub record Then {R : Type 0} (tells : R → History → Type 0) (between : R) (first second : History → History → Type 0) (old new : History) : Type 0 where
+pub record Then {R : Type 0} (tells : R → History → Type 0) (between : R)
+    (first second : History → History → Type 0) (old new : History) : Type 0 where
   pub middle : History
   pub told : tells between middle
   pub went : first old middle

@@ -1,4 +1,4 @@
-use kinds::Bytes;
+use lists::Bytes;
 
 /// What came of one look at the network.
 #[derive(Drop)]
@@ -29,8 +29,12 @@ pub enum SaidEntry {
 /// What the rig was asked for, whether it could or not.
 #[derive(Drop)]
 pub enum AskedEntry {
+    /// To take the two files of a directory.
     Attach { dir: Bytes },
+    /// To listen on a port.
     Listen { port: u16 },
+    /// To connect to a port of a host.
     Dial { host: Bytes, port: u16 },
+    /// To say bytes on a connection.
     Say { conn: u64, bytes: Bytes },
 }

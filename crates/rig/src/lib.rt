@@ -1,5 +1,5 @@
 //! The outside as the product sees it: bytes that come in and go out, the disk, the network and the
-//! clock. Stands on `kinds`. Each trait says what its object means and that it answers a fault only
+//! clock. Stands on `lists`. Each trait says what its object means and that it answers a fault only
 //! where its own count of faults rose; the forms in memory meet the traits and tell their contents.
 #![tactic(auto)]
 
@@ -16,7 +16,7 @@ mod sink;
 mod source;
 
 pub use entries::{AskedEntry, HeardEntry, SaidEntry};
-pub use faults::{FailForm, FailedCall};
+pub use faults::{FailForm, FailedCall, next_count};
 pub use memory_file::Image;
 pub use memory_rig::MemRig;
 pub use memory_sink::{FailedWrite, MemSink};

@@ -1,13 +1,13 @@
-ghost use Rattle.std.specs.Prelude.{◌≡◌, ◌+◌, ◌≤◌, ◌<◌, ◌++◌, ◌∷◌, [], ℕ, IfOk, OnOk, OnErr, length, take, drop, vec_len};
+ghost use Rattle.std.specs.Prelude.{◌≡◌, ◌+◌, ◌≤◌, ◌<◌, ℕ, IfOk, OnOk, OnErr, length, take, drop, vec_len};
 ghost use Rattle.rig.specs.Disk.{overwritten};
 ghost use Rattle.rig.specs.MemoryFile.{settled_file, wrote, was_cut, undo, undone, put_at, halved, image_of, IsKept};
 
-use kinds::{Bytes, Memory};
+use lists::{Bytes, Memory};
 use std::alloc::Global;
 use std::marker::Model;
 use std::mem;
 
-/// What a stop leaves of the writes and cuts that no sync has brought to the disk.
+/// What a crash leaves of the writes and cuts that no sync has brought to the disk.
 #[derive(Clone, Copy, Debug, PartialEq, Eq)]
 pub enum Image {
     /// None of them.
@@ -110,6 +110,7 @@ impl MemFile {
         }
     }
 
+    /// What a read of it gives.
     pub fn bytes(&self) -> &[u8]
         ensures value { result.now ≡ self.now.bytes }
     {
@@ -166,7 +167,7 @@ impl MemFile {
         self.most = self.bytes.len();
     }
 
-    /// What a stop leaves of it.
+    /// What a crash leaves of it.
     pub fn into_image(self, image: Image) -> Result<Vec<u8>, Memory>
         ensures { IfOk result (λ bytes. bytes.items ≡ image_of image self) }
     {

@@ -1,16 +1,23 @@
-ghost use Rattle.std.specs.Prelude.{IsTrue, ◌↔◌, ◌≡◌, ◌≤◌, ◌<◌, ◌+◌, ◌-◌, ◌++◌, ◌∷◌, ◌==◌, ◌⊎◌, [], ℕ, true, false, Err, Option, Some, None, IsSome, IfOk, OnOk, OnErr, IsErr, find, length, take, drop, min};
-ghost use Rattle.std.specs.Option.{option_map};
-ghost use Rattle.rig.specs.Disk.{IsSoundDisk, IsWritten, IsCut, IsSynced};
-ghost use Rattle.rig.specs.Faults.{HasRisen, RisesOnErr, one_more};
-ghost use Rattle.rig.specs.MemoryFile.{IsKept, wrote, was_cut, settled_file};
-ghost use Rattle.rig.specs.MemoryRig.{MemoryRig, fresh_rig, disk_of, rig_tells, memory_file, with_memory_file, next_reading, after_now, look_fault, after_look, change_fault, after_change, part_of, IsAfterFailedWrite, IsAfterFailedCut, CannotWrite, CannotCut, IsSteady, Does, restarted, LeavesImage};
+ghost use Rattle.std.specs.Prelude.{◌≡◌, ◌≢◌, ◌≤◌, ◌<◌, ◌+◌, ◌-◌, ◌==◌, [], false, Some};
+ghost use Rattle.std.specs.Prelude.{IfOk, OnOk, OnErr, find, length, take, drop, min};
+ghost use Rattle.rig.specs.Disk.{IsSoundDisk};
+ghost use Rattle.rig.specs.Faults.{CountsDisk};
+ghost use Rattle.rig.specs.MemoryFile.{IsKept};
+ghost use Rattle.rig.specs.MemoryRig.{MemoryRig, IsSteady, disk_of, memory_file, rig_tells, RigCall};
+ghost use Rattle.rig.specs.MemoryRig.{fresh_rig, restarted, LeavesImage, with_failing, next_reading, after_now};
+ghost use Rattle.rig.specs.MemoryRig.{look_fault, after_look, change_fault, after_change, IsPlaced};
+ghost use Rattle.rig.specs.MemoryRig.{answer_of, counted, starved, asked_for, wrote_on, cut_on, settled_on};
+ghost use Rattle.rig.specs.MemoryRig.{write_fault, after_write, cut_fault, after_cut};
+ghost use Rattle.rig.specs.MemoryRig.{Attaches, Measures, Reads, Writes, Cuts, Syncs};
 ghost use Rattle.rig.specs.MemoryRigLaws.{one_now_lem, sound_lem};
-ghost use Rattle.rig.specs.Told.{GoesOn, StillTells, WhereTold, IsStep, Stays, NotesReading, Asks, OnFile, IsSize, IsRead, reads_of};
+ghost use Rattle.rig.specs.Told.{StillTells, Stays, NotesReading, AsksAttach, IsSize, IsRead};
+ghost use Rattle.rig.specs.Told.{WritesFile, CutsFile, SyncsFile};
 
+use crate::faults::next_count;
 use crate::memory_file::MemFile;
 use crate::memory_source::copy_front;
 use crate::{AskedEntry, DiskFailed, FailForm, FailedCall, Image, Rig, Side};
-use kinds::{Bytes, Items, Memory};
+use lists::{Bytes, Items, Memory};
 use std::alloc::Global;
 use std::marker::Model;
 
@@ -18,8 +25,8 @@ use std::marker::Model;
 const MOST: u64 = 9223372036854775807;
 
 /// A rig in memory, for tests and for scripts. It can fail chosen calls on the disk, and be stopped
-/// within a chosen write, cut or sync: that call and each later one on the disk fail, and `restart`
-/// gives the rig that begins anew with what the stop leaves.
+/// within a chosen write, cut or sync, as by a crash: that call and each later one on the disk fail, and
+/// `restart` gives the rig that begins anew with what the crash leaves.
 #[derive(Drop)]
 pub struct MemRig {
     alloc: Global,
@@ -60,9 +67,7 @@ impl Model for MemRig {
       failing = r.failing;
       stop = r.stop;
       stopped = r.stopped;
-      disk_faults = r.disk_faults;
-      net_faults = r.net_faults;
-      starved = r.starved;
+      counts = record { disk_faults = r.disk_faults; net_faults = r.net_faults; starved = r.starved };
     } };
 
     ghost invariant = { λ r. (r.given ≤ length r.readings) × IsKept r.a × IsKept r.b };
@@ -112,7 +117,7 @@ impl MemRig {
         })
     }
 
-    /// The rig that begins anew, with nothing but the two files that a stop now leaves.
+    /// The rig that begins anew, with nothing but the two files that a crash now leaves.
     pub fn restart(self, alloc: Global, image: Image, room: usize) -> Result<Self, Memory>
         ensures value { IfOk result (λ rig. rig ≡ restarted image room self) }
         ensures sound { IfOk result (λ rig. IsSoundDisk (disk_of rig)) }
@@ -141,7 +146,7 @@ impl MemRig {
 
     /// Lets the call on the disk of this number fail, counted from 1 over all of the rig's.
     pub fn fail_at(&mut self, call: u64, form: FailForm) -> Result<(), Memory>
-        ensures ok { OnOk result (self.new ≡ record self.old { failing = self.old.failing ++ record { call = call; form = form } ∷ [] }) }
+        ensures ok { OnOk result (self.new ≡ with_failing (record { call = call; form = form }) self.old) }
         ensures err { OnErr result (self.new ≡ self.old) }
     {
         self.failing.push(FailedCall { call, form })?;
@@ -199,38 +204,37 @@ impl MemRig {
 
     /// How many calls on the disk failed.
     pub fn disk_fault_count(&self) -> u64
-        ensures { result ≡ self.now.disk_faults }
+        ensures { result ≡ self.now.counts.disk_faults }
     {
         self.disk_faults
     }
 
-    /// How many calls failed for want of memory of the rig's own.
+    /// How many calls failed because the rig itself was out of memory.
     pub fn starved_count(&self) -> u64
-        ensures { result ≡ self.now.starved }
+        ensures { result ≡ self.now.counts.starved }
     {
         self.starved
     }
 
-    // Counts a fault of the disk.
-    fn disk_fault(&mut self) -> DiskFailed
-        ensures counted { self.new ≡ record self.old { disk_faults = one_more self.old.disk_faults } }
-        ensures rises { self.old.disk_faults ≤ self.new.disk_faults }
-        ensures cause { HasRisen self.old.disk_faults self.new.disk_faults }
+    // What a call answers that fails so, or not at all.
+    fn answer<T: Drop>(&mut self, fault: Option<FailForm>, value: T) -> Result<T, DiskFailed>
+        ensures answer { result ≡ answer_of fault value }
+        ensures left { self.new ≡ counted fault self.old }
     {
-        self.disk_faults = self.disk_faults.saturating_add(1);
-        DiskFailed
+        if fault.is_some() {
+            self.disk_faults = next_count(self.disk_faults);
+            return Err(DiskFailed);
+        }
+        Ok(value)
     }
 
-    // Counts a fault of the disk that came of want of memory.
+    // A call found no memory, and its fault is counted.
     fn starve(&mut self) -> DiskFailed
-        ensures counted { self.new ≡ record self.old { disk_faults = one_more self.old.disk_faults; starved = one_more self.old.starved } }
-        ensures rises { self.old.disk_faults ≤ self.new.disk_faults }
-        ensures starved { HasRisen self.old.starved self.new.starved }
-        ensures no_fewer { self.old.starved ≤ self.new.starved }
-        ensures cause { HasRisen self.old.disk_faults self.new.disk_faults }
+        ensures { self.new ≡ starved self.old }
     {
-        self.starved = self.starved.saturating_add(1);
-        self.disk_fault()
+        self.disk_faults = next_count(self.disk_faults);
+        self.starved = next_count(self.starved);
+        DiskFailed
     }
 
     // Counts a call on the disk, and says how it is set to fail.
@@ -238,7 +242,7 @@ impl MemRig {
         ensures form { result ≡ look_fault self.old }
         ensures counted { self.new ≡ after_look self.old }
     {
-        self.calls = self.calls.saturating_add(1);
+        self.calls = next_count(self.calls);
         if self.stopped {
             return Some(FailForm::Nothing);
         }
@@ -249,6 +253,7 @@ impl MemRig {
     fn count_change(&mut self) -> Option<FailForm>
         ensures form { result ≡ change_fault self.old }
         ensures counted { self.new ≡ after_change self.old }
+        ensures sound { IsSoundDisk (disk_of self.old) }
     {
         let set = self.count_look();
         let Some(left) = self.stop else {
@@ -265,7 +270,7 @@ impl MemRig {
 
     // Records that a directory was asked for.
     fn note_attach(&mut self, dir: &[u8]) -> Result<(), Memory>
-        ensures ok { OnOk result (self.new ≡ record self.old { asked = self.old.asked ++ AskedEntry.Attach dir.now ∷ [] }) }
+        ensures ok { OnOk result (self.new ≡ asked_for dir.now self.old) }
         ensures err { OnErr result (self.new ≡ self.old) }
     {
         let dir = Bytes::from_slice(self.alloc, dir)?;
@@ -302,7 +307,7 @@ impl MemRig {
         requires inside { at ≤ length (memory_file file self.old).bytes }
         requires part { length part.now ≤ count }
         requires fits { at + count < 9223372036854775808 }
-        ensures ok { OnOk result (self.new ≡ with_memory_file file (wrote at count part.now (memory_file file self.old)) self.old) }
+        ensures ok { OnOk result (self.new ≡ wrote_on file at count part.now self.old) }
         ensures err { OnErr result (self.new ≡ self.old) }
         ensures sound { IsSoundDisk (disk_of self.new) }
     {
@@ -316,7 +321,7 @@ impl MemRig {
     // Cuts the file.
     fn cut_file(&mut self, file: Side, len: usize) -> Result<(), Memory>
         requires { len ≤ length (memory_file file self.old).bytes }
-        ensures ok { OnOk result (self.new ≡ with_memory_file file (was_cut len (memory_file file self.old)) self.old) }
+        ensures ok { OnOk result (self.new ≡ cut_on file len self.old) }
         ensures err { OnErr result (self.new ≡ self.old) }
         ensures sound { IsSoundDisk (disk_of self.new) }
     {
@@ -329,7 +334,7 @@ impl MemRig {
 
     // Brings the file to the disk.
     fn settle_file(&mut self, file: Side)
-        ensures settled { self.new ≡ with_memory_file file (settled_file (memory_file file self.old).bytes) self.old }
+        ensures settled { self.new ≡ settled_on file self.old }
         ensures sound_before { IsSoundDisk (disk_of self.old) }
         ensures sound_after { IsSoundDisk (disk_of self.new) }
     {
@@ -339,196 +344,126 @@ impl MemRig {
         }
     }
 
-    // Puts so many of a write's bytes into the file.
+    // Counts a write of so many bytes, and says how it fails.
+    fn count_write(&mut self, file: Side, at: u64, count: usize) -> Option<FailForm>
+        ensures form { result ≡ write_fault file at count self.old }
+        ensures counted { self.new ≡ after_change self.old }
+        ensures sound { IsSoundDisk (disk_of self.old) }
+    {
+        let fault = self.count_change();
+        let len = self.len_of(file);
+        if at <= len && (count as u64) <= MOST - at {
+            return fault;
+        }
+        Some(FailForm::Nothing)
+    }
+
+    // Puts a write into its file, or the part of it that is done where it fails so.
     fn put_write(
         &mut self,
         file: Side,
         at: u64,
         bytes: &[u8],
-        count: usize,
-    ) -> Result<(), DiskFailed>
-        requires { count ≤ length bytes.now }
-        ensures ok { OnOk result (self.new ≡ with_memory_file file (wrote at (length bytes.now) (take count bytes.now) (memory_file file self.old)) self.old) }
-        ensures err { OnErr result (self.new ≡ record self.old { disk_faults = self.new.disk_faults; starved = self.new.starved }) }
-        ensures inside { OnOk result (at ≤ length (memory_file file self.old).bytes) }
-        ensures fits { OnOk result (at + length bytes.now < 9223372036854775808) }
-        ensures kept { IsKept (memory_file file self.old) }
-        ensures sound_before { IsSoundDisk (disk_of self.old) }
-        ensures sound_after { OnOk result (IsSoundDisk (disk_of self.new)) }
-        ensures why { OnErr result (CannotWrite at bytes.now (memory_file file self.old) self.old.starved self.new.starved) }
-        ensures cause { OnErr result (HasRisen self.old.disk_faults self.new.disk_faults) }
-        ensures disk_faults { self.old.disk_faults ≤ self.new.disk_faults }
-        ensures net_faults { self.new.net_faults ≡ self.old.net_faults }
-        ensures starved { RisesOnErr result self.old.starved self.new.starved }
+        fault: Option<FailForm>,
+    ) -> Result<(), Memory>
+        requires place { IsPlaced fault at (length bytes.now) (memory_file file self.old) }
+        ensures ok { OnOk result (self.new ≡ after_write file fault at bytes.now self.old) }
+        ensures err { OnErr result (self.new ≡ self.old) }
     {
-        let len = self.len_of(file);
-        if at > len || bytes.len() as u64 > MOST - at {
-            return Err(self.disk_fault());
-        }
-        let (part, _) = bytes.split_at(count);
-        if self
-            .write_file(file, at as usize, bytes.len(), part)
-            .is_err()
-        {
-            return Err(self.starve());
-        }
-        Ok(())
+        let part = match fault {
+            Some(FailForm::Nothing) => return Ok(()),
+            Some(FailForm::Half) => bytes.split_at(bytes.len() / 2).0,
+            Some(FailForm::All) | None => bytes,
+        };
+        self.write_file(file, at as usize, bytes.len(), part)
     }
 
-    // Cuts the file.
-    fn put_cut(&mut self, file: Side, len: u64) -> Result<(), DiskFailed>
-        ensures ok { OnOk result (self.new ≡ with_memory_file file (was_cut len (memory_file file self.old)) self.old) }
-        ensures err { OnErr result (self.new ≡ record self.old { disk_faults = self.new.disk_faults; starved = self.new.starved }) }
-        ensures inside { OnOk result (len ≤ length (memory_file file self.old).bytes) }
-        ensures fits { OnOk result (len < 9223372036854775808) }
-        ensures kept { IsKept (memory_file file self.old) }
-        ensures sound_before { IsSoundDisk (disk_of self.old) }
-        ensures sound_after { OnOk result (IsSoundDisk (disk_of self.new)) }
-        ensures why { OnErr result (CannotCut len (memory_file file self.old) self.old.starved self.new.starved) }
-        ensures cause { OnErr result (HasRisen self.old.disk_faults self.new.disk_faults) }
-        ensures disk_faults { self.old.disk_faults ≤ self.new.disk_faults }
-        ensures net_faults { self.new.net_faults ≡ self.old.net_faults }
-        ensures starved { RisesOnErr result self.old.starved self.new.starved }
+    // Counts a cut, and says how it fails.
+    fn count_cut(&mut self, file: Side, len: u64) -> Option<FailForm>
+        ensures form { result ≡ cut_fault file len self.old }
+        ensures counted { self.new ≡ after_change self.old }
+        ensures sound { IsSoundDisk (disk_of self.old) }
     {
-        if len > self.len_of(file) {
-            return Err(self.disk_fault());
+        let fault = self.count_change();
+        if len <= self.len_of(file) {
+            return fault;
         }
-        if self.cut_file(file, len as usize).is_err() {
-            return Err(self.starve());
+        Some(FailForm::Nothing)
+    }
+
+    // Cuts the file, where a cut that fails so does.
+    fn put_cut(&mut self, file: Side, len: u64, fault: Option<FailForm>) -> Result<(), Memory>
+        requires place { fault ≢ Some FailForm.Nothing → len ≤ length (memory_file file self.old).bytes }
+        ensures ok { OnOk result (self.new ≡ after_cut file fault len self.old) }
+        ensures err { OnErr result (self.new ≡ self.old) }
+    {
+        match fault {
+            Some(FailForm::Nothing | FailForm::Half) => Ok(()),
+            Some(FailForm::All) | None => self.cut_file(file, len as usize),
         }
-        Ok(())
     }
 
     fn do_attach(&mut self, dir: &str) -> Result<(), DiskFailed>
-        ensures does { Does (Asks (AskedEntry.Attach dir.now) self.old.starved self.new.starved) self.old self.new }
-        ensures cause { OnErr result (HasRisen self.old.disk_faults self.new.disk_faults) }
-        ensures disk_faults { self.old.disk_faults ≤ self.new.disk_faults }
-        ensures net_faults { self.new.net_faults ≡ self.old.net_faults }
-        ensures starved { RisesOnErr result self.old.starved self.new.starved }
-        ensures telling { self.new.telling ≡ self.old.telling }
-        ensures done { OnOk result (self.new ≡ record (after_look self.old) { asked = self.old.asked ++ AskedEntry.Attach dir.now ∷ [] }) }
-        ensures left { OnErr result (self.new ≡ record (after_look self.old) { asked = self.new.asked; disk_faults = self.new.disk_faults; starved = self.new.starved }) }
-        ensures why { OnErr result (IsSome (look_fault self.old) ⊎ HasRisen self.old.starved self.new.starved) }
-        ensures set { IsSome (look_fault self.old) → IsErr result }
+        ensures { Attaches dir.now result self.old self.new }
     {
         let fault = self.count_look();
         if self.note_attach(dir.as_bytes()).is_err() {
             return Err(self.starve());
         }
-        if fault.is_some() {
-            return Err(self.disk_fault());
-        }
-        Ok(())
+        self.answer(fault, ())
     }
 
     fn do_size(&mut self, file: Side) -> Result<u64, DiskFailed>
-        ensures does { Does (IsSize file result) self.old self.new }
-        ensures fits { IfOk result (λ len. len < 9223372036854775808) }
-        ensures cause { OnErr result (HasRisen self.old.disk_faults self.new.disk_faults) }
-        ensures disk_faults { self.old.disk_faults ≤ self.new.disk_faults }
-        ensures net_faults { self.new.net_faults ≡ self.old.net_faults }
-        ensures starved { RisesOnErr result self.old.starved self.new.starved }
-        ensures telling { self.new.telling ≡ self.old.telling }
-        ensures done { IfOk result (λ len. len ≡ length (memory_file file self.old).bytes) }
-        ensures left { self.new ≡ record (after_look self.old) { disk_faults = self.new.disk_faults } }
-        ensures why { OnErr result (IsSome (look_fault self.old)) }
-        ensures set { IsSome (look_fault self.old) → IsErr result }
+        ensures does { Measures file result self.old self.new }
+        ensures sound { IsSoundDisk (disk_of self.old) }
     {
-        if self.count_look().is_some() {
-            return Err(self.disk_fault());
-        }
-        Ok(self.len_of(file))
+        let fault = self.count_look();
+        let len = self.len_of(file);
+        self.answer(fault, len)
     }
 
     fn do_read(&mut self, file: Side, at: u64, buf: &mut [u8]) -> Result<usize, DiskFailed>
-        ensures does { Does (IsRead file at buf.new result) self.old self.new }
-        ensures some { IfOk result (λ count. 0 < count) }
-        ensures count { IfOk result (λ count. count ≤ length buf.old) }
-        ensures cause { OnErr result (HasRisen self.old.disk_faults self.new.disk_faults) }
-        ensures disk_faults { self.old.disk_faults ≤ self.new.disk_faults }
-        ensures net_faults { self.new.net_faults ≡ self.old.net_faults }
-        ensures starved { RisesOnErr result self.old.starved self.new.starved }
-        ensures telling { self.new.telling ≡ self.old.telling }
-        ensures done { IfOk result (λ count. count ≡ min (length (memory_file file self.old).bytes - at) (length buf.old)) }
-        ensures left { self.new ≡ record (after_look self.old) { disk_faults = self.new.disk_faults } }
-        ensures why { OnErr result (IsSome (look_fault self.old) ⊎ (length (memory_file file self.old).bytes ≤ at) ⊎ (length buf.old ≡ 0)) }
-        ensures set { IsSome (look_fault self.old) → IsErr result }
+        ensures { Reads file at (length buf.old) buf.new result self.old self.new }
     {
-        if self.count_look().is_some() {
-            return Err(self.disk_fault());
-        }
+        let fault = self.count_look();
         let count = self.copy_from(file, at, buf);
         if count == 0 {
-            return Err(self.disk_fault());
+            return self.answer(Some(FailForm::Nothing), 0);
         }
-        Ok(count)
+        self.answer(fault, count)
     }
 
     fn do_write(&mut self, file: Side, at: u64, bytes: &[u8]) -> Result<(), DiskFailed>
-        ensures does { Does (OnFile file (IsWritten (IsSteady self.old) at bytes.now result)) self.old self.new }
-        ensures fits { OnOk result (at + length bytes.now < 9223372036854775808) }
-        ensures cause { OnErr result (HasRisen self.old.disk_faults self.new.disk_faults) }
-        ensures disk_faults { self.old.disk_faults ≤ self.new.disk_faults }
-        ensures net_faults { self.new.net_faults ≡ self.old.net_faults }
-        ensures starved { RisesOnErr result self.old.starved self.new.starved }
-        ensures telling { self.new.telling ≡ self.old.telling }
-        ensures done { OnOk result (self.new ≡ with_memory_file file (wrote at (length bytes.now) bytes.now (memory_file file self.old)) (after_change self.old)) }
-        ensures left { OnErr result (self.new ≡ record (after_change self.old) { a = self.new.a; b = self.new.b; disk_faults = self.new.disk_faults; starved = self.new.starved }) }
-        ensures why { OnErr result (IsSome (change_fault self.old) ⊎ (length (memory_file file self.old).bytes < at) ⊎ (9223372036854775808 ≤ at + length bytes.now) ⊎ HasRisen self.old.starved self.new.starved) }
-        ensures set { IsSome (change_fault self.old) → IsErr result }
+        ensures does { Writes file at bytes.now result self.old self.new }
+        ensures sound { IsSoundDisk (disk_of self.old) }
     {
-        let fault = self.count_change();
-        if skips(fault) {
-            return Err(self.disk_fault());
+        let fault = self.count_write(file, at, bytes.len());
+        if self.put_write(file, at, bytes, fault).is_err() {
+            return Err(self.starve());
         }
-        self.put_write(file, at, bytes, part_of(fault, bytes.len()))?;
-        if fault.is_some() {
-            return Err(self.disk_fault());
-        }
-        Ok(())
+        self.answer(fault, ())
     }
 
     fn do_cut(&mut self, file: Side, len: u64) -> Result<(), DiskFailed>
-        ensures does { Does (OnFile file (IsCut (IsSteady self.old) len result)) self.old self.new }
-        ensures fits { OnOk result (len < 9223372036854775808) }
-        ensures cause { OnErr result (HasRisen self.old.disk_faults self.new.disk_faults) }
-        ensures disk_faults { self.old.disk_faults ≤ self.new.disk_faults }
-        ensures net_faults { self.new.net_faults ≡ self.old.net_faults }
-        ensures starved { RisesOnErr result self.old.starved self.new.starved }
-        ensures telling { self.new.telling ≡ self.old.telling }
-        ensures done { OnOk result (self.new ≡ with_memory_file file (was_cut len (memory_file file self.old)) (after_change self.old)) }
-        ensures left { OnErr result (IsAfterFailedCut file len self.old self.new) }
-        ensures why { OnErr result (IsSome (change_fault self.old) ⊎ CannotCut len (memory_file file self.old) self.old.starved self.new.starved) }
-        ensures set { IsSome (change_fault self.old) → IsErr result }
+        ensures does { Cuts file len result self.old self.new }
+        ensures sound { IsSoundDisk (disk_of self.old) }
     {
-        let fault = self.count_change();
-        if skips(fault) || fault == Some(FailForm::Half) {
-            return Err(self.disk_fault());
+        let fault = self.count_cut(file, len);
+        if self.put_cut(file, len, fault).is_err() {
+            return Err(self.starve());
         }
-        self.put_cut(file, len)?;
-        if fault.is_some() {
-            return Err(self.disk_fault());
-        }
-        Ok(())
+        self.answer(fault, ())
     }
 
     fn do_sync(&mut self, file: Side) -> Result<(), DiskFailed>
-        ensures does { Does (OnFile file (IsSynced (IsSteady self.old) result)) self.old self.new }
-        ensures cause { OnErr result (HasRisen self.old.disk_faults self.new.disk_faults) }
-        ensures disk_faults { self.old.disk_faults ≤ self.new.disk_faults }
-        ensures net_faults { self.new.net_faults ≡ self.old.net_faults }
-        ensures starved { RisesOnErr result self.old.starved self.new.starved }
-        ensures telling { self.new.telling ≡ self.old.telling }
-        ensures done { OnOk result (self.new ≡ with_memory_file file (settled_file (memory_file file self.old).bytes) (after_change self.old)) }
-        ensures left { OnErr result (self.new ≡ record (after_change self.old) { disk_faults = self.new.disk_faults }) }
-        ensures why { OnErr result (IsSome (change_fault self.old)) }
-        ensures set { IsSome (change_fault self.old) → IsErr result }
+        ensures does { Syncs file result self.old self.new }
+        ensures sound { IsSoundDisk (disk_of self.old) }
     {
-        if self.count_change().is_some() {
-            return Err(self.disk_fault());
+        let fault = self.count_change();
+        if fault.is_none() {
+            self.settle_file(file);
         }
-        self.settle_file(file);
-        Ok(())
+        self.answer(fault, ())
     }
 
     // Gives the next reading, and records it where there is room.
@@ -559,11 +494,7 @@ fn find_call(failing: &[FailedCall], call: u64) -> Option<FailedCall>
 impl Rig for MemRig {
     ghost tells = { rig_tells };
 
-    ghost disk_faults = { λ rig. rig.disk_faults };
-
-    ghost net_faults = { λ rig. rig.net_faults };
-
-    ghost starved = { λ rig. rig.starved };
+    ghost counts = { λ rig. rig.counts };
 
     ghost steady = { IsSteady };
 
@@ -572,132 +503,74 @@ impl Rig for MemRig {
     ghost sound = { sound_lem };
 
     fn attach(&mut self, dir: &str) -> Result<(), DiskFailed>
-        ensures told { GoesOn rig_tells self.old self.new (IsStep (Asks (AskedEntry.Attach dir.now) self.old.starved self.new.starved)) }
+        ensures told { RigCall (AsksAttach dir.now self.old.counts self.new.counts) self.old self.new }
         ensures tells { StillTells rig_tells self.old self.new }
         ensures steady { IsSteady self.old → IsSteady self.new }
-        ensures cause { OnErr result (HasRisen self.old.disk_faults self.new.disk_faults) }
-        ensures disk_faults { self.old.disk_faults ≤ self.new.disk_faults }
-        ensures net_faults { self.new.net_faults ≡ self.old.net_faults }
-        ensures starved { RisesOnErr result self.old.starved self.new.starved }
-
-        // the directory is recorded, and the call fails where it is set to, and else only for want of memory
-        ensures telling { self.new.telling ≡ self.old.telling }
-        ensures done { OnOk result (self.new ≡ record (after_look self.old) { asked = self.old.asked ++ AskedEntry.Attach dir.now ∷ [] }) }
-        ensures left { OnErr result (self.new ≡ record (after_look self.old) { asked = self.new.asked; disk_faults = self.new.disk_faults; starved = self.new.starved }) }
-        ensures why { OnErr result (IsSome (look_fault self.old) ⊎ HasRisen self.old.starved self.new.starved) }
-        ensures set { IsSome (look_fault self.old) → IsErr result }
+        ensures counts { CountsDisk result self.old.counts self.new.counts }
+        ensures does { Attaches dir.now result self.old self.new }
     {
         self.do_attach(dir)
     }
 
     fn size(&mut self, file: Side) -> Result<u64, DiskFailed>
-        ensures told { GoesOn rig_tells self.old self.new (IsStep (IsSize file result)) }
+        ensures told { RigCall (IsSize file result) self.old self.new }
         ensures tells { StillTells rig_tells self.old self.new }
         ensures steady { IsSteady self.old → IsSteady self.new }
         ensures fits { IfOk result (λ len. len < 9223372036854775808) }
-        ensures cause { OnErr result (HasRisen self.old.disk_faults self.new.disk_faults) }
-        ensures disk_faults { self.old.disk_faults ≤ self.new.disk_faults }
-        ensures net_faults { self.new.net_faults ≡ self.old.net_faults }
-        ensures starved { RisesOnErr result self.old.starved self.new.starved }
-
-        // it fails where it is set to
-        ensures telling { self.new.telling ≡ self.old.telling }
-        ensures done { IfOk result (λ len. len ≡ length (memory_file file self.old).bytes) }
-        ensures left { self.new ≡ record (after_look self.old) { disk_faults = self.new.disk_faults } }
-        ensures why { OnErr result (IsSome (look_fault self.old)) }
-        ensures set { IsSome (look_fault self.old) → IsErr result }
+        ensures counts { CountsDisk result self.old.counts self.new.counts }
+        ensures does { Measures file result self.old self.new }
     {
         self.do_size(file)
     }
 
     fn read(&mut self, file: Side, at: u64, buf: &mut [u8]) -> Result<usize, DiskFailed>
-        ensures told { GoesOn rig_tells self.old self.new (IsStep (IsRead file at buf.new result)) }
+        ensures told { RigCall (IsRead file at buf.new result) self.old self.new }
         ensures tells { StillTells rig_tells self.old self.new }
         ensures steady { IsSteady self.old → IsSteady self.new }
         ensures some { IfOk result (λ count. 0 < count) }
         ensures count { IfOk result (λ count. count ≤ length buf.old) }
-        ensures cause { OnErr result (HasRisen self.old.disk_faults self.new.disk_faults) }
-        ensures disk_faults { self.old.disk_faults ≤ self.new.disk_faults }
-        ensures net_faults { self.new.net_faults ≡ self.old.net_faults }
-        ensures starved { RisesOnErr result self.old.starved self.new.starved }
-
-        // it gives what there is and fits, and fails where it is set to, or with nothing to give
-        ensures telling { self.new.telling ≡ self.old.telling }
-        ensures done { IfOk result (λ count. count ≡ min (length (memory_file file self.old).bytes - at) (length buf.old)) }
-        ensures left { self.new ≡ record (after_look self.old) { disk_faults = self.new.disk_faults } }
-        ensures why { OnErr result (IsSome (look_fault self.old) ⊎ (length (memory_file file self.old).bytes ≤ at) ⊎ (length buf.old ≡ 0)) }
-        ensures set { IsSome (look_fault self.old) → IsErr result }
+        ensures counts { CountsDisk result self.old.counts self.new.counts }
+        ensures does { Reads file at (length buf.old) buf.new result self.old self.new }
     {
         self.do_read(file, at, buf)
     }
 
     fn write(&mut self, file: Side, at: u64, bytes: &[u8]) -> Result<(), DiskFailed>
-        ensures told { GoesOn rig_tells self.old self.new (IsStep (OnFile file (IsWritten (IsSteady self.old) at bytes.now result))) }
+        ensures told { RigCall (WritesFile file (IsSteady self.old) at bytes.now result) self.old self.new }
         ensures tells { StillTells rig_tells self.old self.new }
         ensures steady { IsSteady self.old → IsSteady self.new }
         ensures fits { OnOk result (at + length bytes.now < 9223372036854775808) }
-        ensures cause { OnErr result (HasRisen self.old.disk_faults self.new.disk_faults) }
-        ensures disk_faults { self.old.disk_faults ≤ self.new.disk_faults }
-        ensures net_faults { self.new.net_faults ≡ self.old.net_faults }
-        ensures starved { RisesOnErr result self.old.starved self.new.starved }
-
-        // it fails where it is set to, where it would not fit, and else only for want of memory, and
-        // leaves what the form says that is set
-        ensures telling { self.new.telling ≡ self.old.telling }
-        ensures done { OnOk result (self.new ≡ with_memory_file file (wrote at (length bytes.now) bytes.now (memory_file file self.old)) (after_change self.old)) }
-        ensures left { OnErr result (self.new ≡ record (after_change self.old) { a = self.new.a; b = self.new.b; disk_faults = self.new.disk_faults; starved = self.new.starved }) }
-        ensures why { OnErr result (IsSome (change_fault self.old) ⊎ (length (memory_file file self.old).bytes < at) ⊎ (9223372036854775808 ≤ at + length bytes.now) ⊎ HasRisen self.old.starved self.new.starved) }
-        ensures set { IsSome (change_fault self.old) → IsErr result }
+        ensures counts { CountsDisk result self.old.counts self.new.counts }
+        ensures does { Writes file at bytes.now result self.old self.new }
     {
         self.do_write(file, at, bytes)
     }
 
     fn cut(&mut self, file: Side, len: u64) -> Result<(), DiskFailed>
-        ensures told { GoesOn rig_tells self.old self.new (IsStep (OnFile file (IsCut (IsSteady self.old) len result))) }
+        ensures told { RigCall (CutsFile file (IsSteady self.old) len result) self.old self.new }
         ensures tells { StillTells rig_tells self.old self.new }
         ensures steady { IsSteady self.old → IsSteady self.new }
         ensures fits { OnOk result (len < 9223372036854775808) }
-        ensures cause { OnErr result (HasRisen self.old.disk_faults self.new.disk_faults) }
-        ensures disk_faults { self.old.disk_faults ≤ self.new.disk_faults }
-        ensures net_faults { self.new.net_faults ≡ self.old.net_faults }
-        ensures starved { RisesOnErr result self.old.starved self.new.starved }
-
-        // it fails where it is set to, where the file is shorter, and else only for want of memory, and
-        // leaves what the form says that is set
-        ensures telling { self.new.telling ≡ self.old.telling }
-        ensures done { OnOk result (self.new ≡ with_memory_file file (was_cut len (memory_file file self.old)) (after_change self.old)) }
-        ensures left { OnErr result (IsAfterFailedCut file len self.old self.new) }
-        ensures why { OnErr result (IsSome (change_fault self.old) ⊎ CannotCut len (memory_file file self.old) self.old.starved self.new.starved) }
-        ensures set { IsSome (change_fault self.old) → IsErr result }
+        ensures counts { CountsDisk result self.old.counts self.new.counts }
+        ensures does { Cuts file len result self.old self.new }
     {
         self.do_cut(file, len)
     }
 
     fn sync(&mut self, file: Side) -> Result<(), DiskFailed>
-        ensures told { GoesOn rig_tells self.old self.new (IsStep (OnFile file (IsSynced (IsSteady self.old) result))) }
+        ensures told { RigCall (SyncsFile file (IsSteady self.old) result) self.old self.new }
         ensures tells { StillTells rig_tells self.old self.new }
         ensures steady { IsSteady self.old → IsSteady self.new }
-        ensures cause { OnErr result (HasRisen self.old.disk_faults self.new.disk_faults) }
-        ensures disk_faults { self.old.disk_faults ≤ self.new.disk_faults }
-        ensures net_faults { self.new.net_faults ≡ self.old.net_faults }
-        ensures starved { RisesOnErr result self.old.starved self.new.starved }
-
-        // it fails where it is set to
-        ensures telling { self.new.telling ≡ self.old.telling }
-        ensures done { OnOk result (self.new ≡ with_memory_file file (settled_file (memory_file file self.old).bytes) (after_change self.old)) }
-        ensures left { OnErr result (self.new ≡ record (after_change self.old) { disk_faults = self.new.disk_faults }) }
-        ensures why { OnErr result (IsSome (change_fault self.old)) }
-        ensures set { IsSome (change_fault self.old) → IsErr result }
+        ensures counts { CountsDisk result self.old.counts self.new.counts }
+        ensures does { Syncs file result self.old self.new }
     {
         self.do_sync(file)
     }
 
     fn now(&mut self) -> u64
-        ensures told { GoesOn rig_tells self.old self.new (IsStep (NotesReading result)) }
+        ensures told { RigCall (NotesReading result) self.old self.new }
         ensures steady { IsSteady self.old → IsSteady self.new }
-        ensures disk_faults { self.new.disk_faults ≡ self.old.disk_faults }
-        ensures net_faults { self.new.net_faults ≡ self.old.net_faults }
-        ensures starved { self.new.starved ≡ self.old.starved }
+        ensures counts { self.new.counts ≡ self.old.counts }
 
         // the readings in order, and then the last again
         ensures reading { result ≡ next_reading self.old.readings self.old.last }
@@ -707,35 +580,14 @@ impl Rig for MemRig {
     }
 
     fn rest(&mut self, ms: u64)
-        ensures told { GoesOn rig_tells self.old self.new (IsStep Stays) }
+        ensures told { RigCall Stays self.old self.new }
         ensures tells { StillTells rig_tells self.old self.new }
         ensures steady { IsSteady self.old → IsSteady self.new }
-        ensures disk_faults { self.new.disk_faults ≡ self.old.disk_faults }
-        ensures net_faults { self.new.net_faults ≡ self.old.net_faults }
-        ensures starved { self.new.starved ≡ self.old.starved }
+        ensures counts { self.new.counts ≡ self.old.counts }
 
         // it waits for nobody
         ensures same { self.new ≡ self.old }
     {
         let _ = ms;
-    }
-}
-
-// The call fails with nothing done.
-fn skips(fault: Option<FailForm>) -> bool
-    ensures { IsTrue result ↔ (fault ≡ Some FailForm.Nothing) }
-{
-    matches!(fault, Some(FailForm::Nothing))
-}
-
-// How many of a write's bytes are written.
-fn part_of(fault: Option<FailForm>, len: usize) -> usize
-    ensures within { result ≤ len }
-    ensures part { result ≡ part_of fault len }
-{
-    if matches!(fault, Some(FailForm::Half)) {
-        len / 2
-    } else {
-        len
     }
 }

@@ -1,18 +1,19 @@
-ghost use Rattle.std.specs.Prelude.{◌≡◌, ◌≤◌, ◌++◌, ◌∷◌, ◌==◌, [], ℕ, find, Option, Some, IsNone, OnOk, OnErr};
-ghost use Rattle.rig.specs.Faults.{HasRisen};
-ghost use Rattle.rig.specs.MemorySink.{MemorySink, blank_sink, failed_write, after_write, IsAfterFailedWrite};
-ghost use Rattle.rig.specs.Written.{Adds, AddsPrefix};
+ghost use Rattle.std.specs.Prelude.{◌≡◌, ◌==◌, find, OnOk, OnErr};
+ghost use Rattle.rig.specs.MemorySink.{MemorySink, blank_sink, outgoing_of, with_failing, starving, Sinks};
+ghost use Rattle.rig.specs.Written.{PutsOut};
 
+use crate::faults::next_count;
 use crate::{Sink, WriteFailed};
-use kinds::{Bytes, Items, Memory};
+use lists::{Bytes, Items, Memory};
 use std::alloc::Global;
 use std::marker::Model;
 
-/// A write that is set to fail: its number, counted from 1 over all writes of the sink, and how many
-/// of its bytes it writes first.
+/// A write that is set to fail.
 #[derive(Clone, Copy, Debug, PartialEq, Eq)]
 pub struct FailedWrite {
+    /// Its number, counted from 1 over all writes of the sink.
     pub number: u64,
+    /// How many of its bytes it writes first.
     pub prefix: usize,
 }
 
@@ -23,6 +24,7 @@ pub struct MemSink {
     failing: Items<FailedWrite>,
     writes: u64,
     faults: u64,
+    starved: u64,
 }
 
 impl Model for MemSink {
@@ -35,11 +37,12 @@ impl Model for MemSink {
       failing = s.failing;
       writes = s.writes;
       faults = s.faults;
+      starved = s.starved;
     } };
 }
 
 impl MemSink {
-    /// A sink to which nothing was written, and that fails only for want of memory.
+    /// A sink to which nothing was written, and that fails only where it is out of memory.
     pub fn new(alloc: Global) -> Self
         ensures { result ≡ blank_sink }
     {
@@ -48,12 +51,13 @@ impl MemSink {
             failing: Items::new(alloc),
             writes: 0,
             faults: 0,
+            starved: 0,
         }
     }
 
     /// Lets a write fail.
     pub fn fail_write(&mut self, failed: FailedWrite) -> Result<(), Memory>
-        ensures ok { OnOk result (self.new ≡ record self.old { failing = self.old.failing ++ failed ∷ [] }) }
+        ensures ok { OnOk result (self.new ≡ with_failing failed self.old) }
         ensures err { OnErr result (self.new ≡ self.old) }
     {
         self.failing.push(failed)?;
@@ -80,36 +84,46 @@ impl MemSink {
     {
         self.faults
     }
+
+    /// How many writes failed because the sink was out of memory.
+    pub fn starved_count(&self) -> u64
+        ensures { result ≡ self.now.starved }
+    {
+        self.starved
+    }
+
+    // A write found no memory, and its fault is counted.
+    fn starve(&mut self) -> WriteFailed
+        ensures { self.new ≡ starving self.old }
+    {
+        self.faults = next_count(self.faults);
+        self.starved = next_count(self.starved);
+        WriteFailed
+    }
 }
 
 impl Sink for MemSink {
-    ghost written = { λ sink. Some sink.written };
-
-    ghost faults = { λ sink. sink.faults };
+    ghost outgoing = { outgoing_of };
 
     fn write(&mut self, bytes: &[u8]) -> Result<(), WriteFailed>
-        ensures all { OnOk result (Adds (Some self.old.written) (Some self.new.written) bytes.now) }
-        ensures prefix { OnErr result (AddsPrefix (Some self.old.written) (Some self.new.written) bytes.now) }
-        ensures faults { self.old.faults ≤ self.new.faults }
-        ensures cause { OnErr result (HasRisen self.old.faults self.new.faults) }
+        ensures written { PutsOut bytes.now result (outgoing_of self.old) (outgoing_of self.new) }
 
-        // It fails where it is set to, and else only for want of memory.
-        ensures written { OnOk result (self.new ≡ after_write self.old bytes.now) }
-        ensures as_set { OnOk result (IsNone (failed_write self.old)) }
-        ensures failed { OnErr result (IsAfterFailedWrite self.old bytes.now self.new) }
+        // It does what is set for it, or it finds no memory and does nothing.
+        ensures sinks { Sinks bytes.now result self.old self.new }
     {
-        self.writes = self.writes.saturating_add(1);
-        if let Some(failed) = find_write(self.failing.as_slice(), self.writes) {
-            let prefix = &bytes[..failed.prefix.min(bytes.len())];
-            let _ = self.written.extend_from_slice(prefix);
-            self.faults = self.faults.saturating_add(1);
-            return Err(WriteFailed);
+        self.writes = next_count(self.writes);
+        let Some(failed) = find_write(self.failing.as_slice(), self.writes) else {
+            if self.written.extend_from_slice(bytes).is_err() {
+                return Err(self.starve());
+            }
+            return Ok(());
+        };
+        let (prefix, _) = bytes.split_at(failed.prefix.min(bytes.len()));
+        if self.written.extend_from_slice(prefix).is_err() {
+            return Err(self.starve());
         }
-        if self.written.extend_from_slice(bytes).is_err() {
-            self.faults = self.faults.saturating_add(1);
-            return Err(WriteFailed);
-        }
-        Ok(())
+        self.faults = next_count(self.faults);
+        Err(WriteFailed)
     }
 }
 

@@ -1,10 +1,10 @@
-ghost use Rattle.std.specs.Prelude.{◌≡◌, ◌≤◌, ◌<◌, ◌++◌, ◌∷◌, [], ℕ, length, take, min, Option, Some, IfOk, OnOk, OnErr};
-ghost use Rattle.rig.specs.Faults.{HasRisen};
-ghost use Rattle.rig.specs.Flow.{GivesWhereTold};
-ghost use Rattle.rig.specs.MemorySource.{MemorySource, source_of, read_answer, after_read};
+ghost use Rattle.std.specs.Prelude.{◌≡◌, ◌<◌, length, take, min, IfOk, OnOk, OnErr};
+ghost use Rattle.rig.specs.Flow.{TakesIn};
+ghost use Rattle.rig.specs.MemorySource.{MemorySource, source_of, incoming_of, with_failing, read_answer, after_read};
 
+use crate::faults::next_count;
 use crate::{ReadFailed, Source};
-use kinds::{Bytes, Items, Memory};
+use lists::{Bytes, Items, Memory};
 use std::alloc::Global;
 use std::marker::Model;
 
@@ -52,6 +52,7 @@ impl MemSource {
         }
     }
 
+    /// The same of a copy of these bytes.
     pub fn from_slice(alloc: Global, bytes: &[u8]) -> Result<Self, Memory>
         ensures { IfOk result (λ source. source ≡ source_of bytes.now) }
     {
@@ -68,7 +69,7 @@ impl MemSource {
 
     /// Lets the read of this number fail, counted from 1 over all reads of the source.
     pub fn fail_read(&mut self, read: u64) -> Result<(), Memory>
-        ensures ok { OnOk result (self.new ≡ record self.old { failing = self.old.failing ++ read ∷ [] }) }
+        ensures ok { OnOk result (self.new ≡ with_failing read self.old) }
         ensures err { OnErr result (self.new ≡ self.old) }
     {
         self.failing.push(read)?;
@@ -105,24 +106,18 @@ impl MemSource {
 }
 
 impl Source for MemSource {
-    ghost flow = { λ source. Some source.flow };
-
-    ghost faults = { λ source. source.faults };
+    ghost incoming = { incoming_of };
 
     fn read(&mut self, buf: &mut [u8]) -> Result<usize, ReadFailed>
-        ensures count { IfOk result (λ n. n ≤ length buf.old) }
-        ensures gives { IfOk result (λ n. GivesWhereTold (Some self.old.flow) (Some self.new.flow) buf.new n) }
-        ensures failed { OnErr result (self.new.flow ≡ self.old.flow) }
-        ensures faults { self.old.faults ≤ self.new.faults }
-        ensures cause { OnErr result (HasRisen self.old.faults self.new.faults) }
+        ensures read { TakesIn buf.new result (incoming_of self.old) (incoming_of self.new) }
 
         // It answers and leaves what it is set to.
         ensures answer { result ≡ read_answer self.old (length buf.old) }
         ensures left { self.new ≡ after_read self.old (length buf.old) }
     {
-        self.reads = self.reads.saturating_add(1);
+        self.reads = next_count(self.reads);
         if self.failing.as_slice().contains(&self.reads) {
-            self.faults = self.faults.saturating_add(1);
+            self.faults = next_count(self.faults);
             return Err(ReadFailed);
         }
         let (_, left) = self.bytes.as_slice().split_at(self.at);
@@ -132,7 +127,8 @@ impl Source for MemSource {
     }
 }
 
-// Puts the first bytes at the front of the buffer, as many as fit and at most `most`, and says how many.
+// Puts the first bytes at the front of the buffer, as many as fit and at most `most`, and says how
+// many.
 pub(crate) fn copy_front(buffer: &mut [u8], bytes: &[u8], most: usize) -> usize
     ensures count { result ≡ min (min (length bytes.now) (length buffer.old)) most }
     ensures front { take result buffer.new ≡ take result bytes.now }

@@ -23,6 +23,7 @@ impl Model for SilentRig {
 }
 
 impl SilentRig {
+    /// This rig, which from now on tells its counts alone.
     pub fn new(rig: MemRig) -> Self
         ensures { result ≡ record rig { telling = false } }
     {
@@ -42,11 +43,7 @@ impl SilentRig {
 impl Rig for SilentRig {
     ghost tells = { tells_nothing };
 
-    ghost disk_faults = { λ rig. rig.disk_faults };
-
-    ghost net_faults = { λ rig. rig.net_faults };
-
-    ghost starved = { λ rig. rig.starved };
+    ghost counts = { λ rig. rig.counts };
 
     ghost steady = { IsSteady };
 

@@ -1,23 +1,24 @@
-ghost use Rattle.std.specs.Prelude.{◌≡◌, ◌≤◌, ℕ, List, Option, OnOk, OnErr};
-ghost use Rattle.rig.specs.Faults.{HasRisen};
-ghost use Rattle.rig.specs.Written.{Adds, AddsPrefix};
+ghost use Rattle.rig.specs.Written.{Outgoing, PutsOut};
+
+use std::fmt;
 
 /// A write failed, and the sink counted the fault.
 #[derive(Clone, Copy, Debug, PartialEq, Eq)]
 pub struct WriteFailed;
 
+impl fmt::Display for WriteFailed {
+    fn fmt<W: fmt::Write>(&self, f: &mut fmt::Formatter<W>) -> fmt::Result {
+        f.write_str("a write failed")
+    }
+}
+
 /// Bytes that go out.
 pub trait Sink {
-    /// The bytes written so far, where the sink tells. One that tells goes on telling.
-    ghost written: { Self → Option (List ℕ) };
-
-    /// How often a write has failed. It never falls, and stays at 2^64 - 1.
-    ghost faults: { Self → ℕ };
+    /// The bytes written so far, where it tells, and how often a write has failed, at most 2^64 - 1
+    /// times. One that tells goes on telling.
+    ghost outgoing: { Self → Outgoing };
 
     /// Writes all of the bytes. A write that fails may have written a prefix.
     fn write(&mut self, bytes: &[u8]) -> Result<(), WriteFailed>
-        ensures all { OnOk result (Adds (written self.old) (written self.new) bytes.now) }
-        ensures prefix { OnErr result (AddsPrefix (written self.old) (written self.new) bytes.now) }
-        ensures faults { faults self.old ≤ faults self.new }
-        ensures cause { OnErr result (HasRisen (faults self.old) (faults self.new)) };
+        ensures written { PutsOut bytes.now result (outgoing self.old) (outgoing self.new) };
 }

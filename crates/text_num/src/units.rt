@@ -1,4 +1,4 @@
-ghost use Rattle.std.specs.Prelude.{◌≡◌, ◌⊎◌, ◌<◌, ◌≤◌, ◌^◌, ◌++◌, ◌+◌, ◌==◌, slice_index, ℕ, ℤ, List, [], length, take, drop, unsigned_abs, Ok, Err, true, decimal};
+ghost use Rattle.std.specs.Prelude.{◌≡◌, ◌⊎◌, ◌<◌, ◌≤◌, ◌^◌, ◌++◌, ◌+◌, ◌==◌, slice_index, ℕ, ℤ, List, [], length, take, drop, unsigned_abs, IfOk, Ok, Err, true, decimal};
 ghost use Rattle.text_num.specs.Seen.{number_seen};
 ghost use Rattle.std.specs.Int.{is_negative};
 ghost use Rattle.text_num.specs.JsonNumber.{JsonNumber, IsJsonNumber, sign_text};
@@ -24,6 +24,7 @@ pub fn read_units(text: &[u8]) -> Result<i128, NumFault>
     ensures units { (number : JsonNumber) → IsJsonNumber text.now number → result ≡ units_of_number number }
     // .. and where there is none, it isn't a number
     ensures number { (result ≡ Err NotANumber) ⊎ ((number : JsonNumber) × IsJsonNumber text.now number) }
+    ensures bound { IfOk result (λ units. unsigned_abs units < 10 ^ 38) }
 {
     let Some(number) = Number::read(text) else {
         return Err(NumFault::NotANumber);

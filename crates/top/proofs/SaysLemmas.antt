@@ -1,44 +1,68 @@
--- Texts that are said in parts.
-use Rattle.std.proofs.Common.{◌≡◌, ℕ, ◌≤◌, List, ◌++◌, Option, inl, inr, arith, codes, decimal, subst}
-use Rattle.rig.specs.Faults.{HasRisen}
-use Rattle.rig.specs.Written.{Adds, AddsPrefix}
-use Rattle.rig.proofs.WrittenLemmas.{adds-adds, adds-adds-prefix, adds-prefix-more}
-use Rattle.top.specs.LastLine.{script_fault}
-use Rattle.top.specs.Outcome.{Says}
+-- Texts that are said in parts, and the faults that are counted.
+use Rattle.std.proofs.Common.{◌≡◌, ℕ, ◌⊎◌, List, [], ◌++◌, Result, Ok, Err, inl, inr, ap, ◌∙◌, sym, subst, refl, codes, decimal}
+use Rattle.rig.specs.Faults.{one_more}
+use Rattle.rig.specs.Written.{Outgoing, FailsWriting, PutsOut, after_write}
+use Rattle.rig.proofs.WrittenLemmas.{fails-more, write-fails, write-nothing, write-write}
+use Rattle.replay_core.specs.Script.{CountsWrites as CountsRun}
+use Rattle.replay_core.specs.declared.end.ReplayEnd.{ReplayEnd}
+use Rattle.replay_core.specs.declared.end.ReplayEnd.TheVariants as end
+use Rattle.top.specs.LastLine.{last_line, script_fault}
+use Rattle.top.specs.Outcome.{CountsOne, CountsWrites, Says, status_of}
 
-risen-after : (old mid new : ℕ) → old ≤ mid → HasRisen mid new → HasRisen old new
-risen-after old mid new h (inl k) = inl (omega arith)
-risen-after old mid new h (inr k) = inr k
-
--- the sink's count was lower before
-pub says-later : (text : List ℕ) (old new : Option (List ℕ)) (f0 f1 f2 : ℕ) → f0 ≤ f1 → Says text old new f1 f2 → Says text old new f0 f2
-unfolding Says
-says-later text old new f0 f1 f2 later (inl k) = inl k
-says-later text old new f0 f1 f2 later (inr k) = inr (k.0, risen-after f0 f1 f2 later k.1)
+pub puts-says : {T E : Type 0} (text : List ℕ) (result : Result T E) (old new : Outgoing) → PutsOut text result old new → Says text old new
+puts-says text (Ok x) old new h = inl h
+puts-says text (Err e) old new h = inr h
 
 -- a part that was said whole, and then another
-says-then : (a b : List ℕ) (w0 w1 w2 : Option (List ℕ)) (f0 f1 f2 : ℕ) → Adds w0 w1 a → f0 ≤ f1 → Says b w1 w2 f1 f2 → Says (a ++ b) w0 w2 f0 f2
-unfolding Says
-says-then a b w0 w1 w2 f0 f1 f2 h later (inl k) = inl (adds-adds w0 w1 w2 a b h k)
-says-then a b w0 w1 w2 f0 f1 f2 h later (inr k) = inr (adds-adds-prefix w0 w1 w2 a b h k.0, risen-after f0 f1 f2 later k.1)
+puts-then : {T E : Type 0} (a b : List ℕ) (result : Result T E) (old mid new : Outgoing) → mid ≡ after_write a old → PutsOut b result mid new → PutsOut (a ++ b) result old new
+puts-then a b (Ok x) old mid new h k = k ∙ ap (after_write b) h ∙ write-write old a b
+puts-then a b (Err e) old mid new h k = write-fails a b old mid new h k
 
--- a part at which the sink failed
-says-failed : (a b : List ℕ) (old new : Option (List ℕ)) (f0 f1 : ℕ) → AddsPrefix old new a × HasRisen f0 f1 → Says (a ++ b) old new f0 f1
-unfolding Says
-says-failed a b old new f0 f1 h = inr (adds-prefix-more old new a b h.0, h.1)
+pub nothing-said : (sink : Outgoing) → sink ≡ after_write [] sink
+nothing-said sink = sym (write-nothing sink)
 
-pub fault-first : (line : ℕ) (w0 w1 : Option (List ℕ)) (f0 f1 : ℕ) → AddsPrefix w0 w1 (codes "script fault in line ") × HasRisen f0 f1 → Says (script_fault line) w0 w1 f0 f1
+pub fault-first : (line : ℕ) (w0 w1 : Outgoing) → FailsWriting (codes "script fault in line ") w0 w1 → FailsWriting (script_fault line) w0 w1
 unfolding script_fault
-fault-first line w0 w1 f0 f1 h = says-failed (codes "script fault in line ") (decimal line ++ codes "\n") w0 w1 f0 f1 h
+fault-first line w0 w1 h = fails-more (codes "script fault in line ") (decimal line ++ codes "\n") w0 w1 h
 
-pub fault-number : (line : ℕ) (number : List ℕ) (w0 w1 w2 : Option (List ℕ)) (f0 f1 f2 : ℕ) → number ≡ decimal line → Adds w0 w1 (codes "script fault in line ") → f0 ≤ f1 → AddsPrefix w1 w2 number × HasRisen f1 f2 → Says (script_fault line) w0 w2 f0 f2
+pub fault-number : (line : ℕ) (number : List ℕ) (w0 w1 w2 : Outgoing) → number ≡ decimal line → w1 ≡ after_write (codes "script fault in line ") w0 → FailsWriting number w1 w2 → FailsWriting (script_fault line) w0 w2
 unfolding script_fault
-fault-number line number w0 w1 w2 f0 f1 f2 is h later k =
-    says-then (codes "script fault in line ") (decimal line ++ codes "\n") w0 w1 w2 f0 f1 f2 h later
-    (says-failed (decimal line) (codes "\n") w1 w2 f1 f2 (subst (λ (t : List ℕ). AddsPrefix w1 w2 t × HasRisen f1 f2) is k))
+fault-number line number w0 w1 w2 is h k =
+    write-fails (codes "script fault in line ") (decimal line ++ codes "\n") w0 w1 w2 h
+    (fails-more (decimal line) (codes "\n") w1 w2 (subst (λ (t : List ℕ). FailsWriting t w1 w2) is k))
 
-pub fault-last : (line : ℕ) (number : List ℕ) (w0 w1 w2 w3 : Option (List ℕ)) (f0 f1 f2 f3 : ℕ) → number ≡ decimal line → Adds w0 w1 (codes "script fault in line ") → f0 ≤ f1 → Adds w1 w2 number → f1 ≤ f2 → Says (codes "\n") w2 w3 f2 f3 → Says (script_fault line) w0 w3 f0 f3
+pub fault-last : {T E : Type 0} (line : ℕ) (number : List ℕ) (result : Result T E) (w0 w1 w2 w3 : Outgoing) → number ≡ decimal line → w1 ≡ after_write (codes "script fault in line ") w0 → w2 ≡ after_write number w1 → PutsOut (codes "\n") result w2 w3 → PutsOut (script_fault line) result w0 w3
 unfolding script_fault
-fault-last line number w0 w1 w2 w3 f0 f1 f2 f3 is h later k later2 last =
-    says-then (codes "script fault in line ") (decimal line ++ codes "\n") w0 w1 w3 f0 f1 f3 h later
-    (says-then (decimal line) (codes "\n") w1 w2 w3 f1 f2 f3 (subst (λ (t : List ℕ). Adds w1 w2 t) is k) later2 last)
+fault-last line number result w0 w1 w2 w3 is h k last =
+    puts-then (codes "script fault in line ") (decimal line ++ codes "\n") result w0 w1 w3 h
+    (puts-then (decimal line) (codes "\n") result w1 w2 w3 (k ∙ ap (λ (t : List ℕ). after_write t w1) is) last)
+
+-- ## Counts
+
+-- a text was said, whole or not
+pub says-counts : (text : List ℕ) (old new : Outgoing) → Says text old new → CountsOne old.faults new.faults
+says-counts text old new (inl h) = inl (ap (λ (o : Outgoing). o.faults) h)
+says-counts text old new (inr h) = inr (ap (λ (o : Outgoing). o.faults) h.1)
+
+-- no write failed before
+one-after : (old mid new : ℕ) → mid ≡ old → CountsOne mid new → CountsOne old new
+one-after old mid new is h = subst (λ (n : ℕ). CountsOne n new) is h
+
+two-after : (old mid new : ℕ) → mid ≡ one_more old → CountsOne mid new → CountsOne old new ⊎ (new ≡ one_more (one_more old))
+two-after old mid new is (inl h) = inl (inr (h ∙ is))
+two-after old mid new is (inr h) = inr (h ∙ ap one_more is)
+
+-- what a run counts whose last line says nothing but where it says one
+pub run-counts : (e : ReplayEnd) (old mid new : Outgoing) → CountsRun e old.faults mid.faults → Says (last_line e) mid new → (e ≡ end.Done → new ≡ mid) → (e ≡ end.WriteFault → new ≡ mid) → CountsWrites (status_of e) old.faults new.faults
+run-counts end.Done old mid new (inl h) says done failed = ap (λ (o : Outgoing). o.faults) (done refl) ∙ h
+run-counts end.Done old mid new (inr (is, h)) says done failed = cc
+run-counts (end.Script line) old mid new (inl h) says done failed = one-after old.faults mid.faults new.faults h (says-counts _ mid new says)
+run-counts (end.Script line) old mid new (inr (is, h)) says done failed = cc
+run-counts end.ReadFault old mid new (inl h) says done failed = one-after old.faults mid.faults new.faults h (says-counts _ mid new says)
+run-counts end.ReadFault old mid new (inr (is, h)) says done failed = cc
+run-counts end.WriteFault old mid new (inl h) says done failed = ap (λ (o : Outgoing). o.faults) (failed refl) ∙ h
+run-counts end.WriteFault old mid new (inr (is, h)) says done failed = cc
+run-counts end.NumbersSpent old mid new (inl h) says done failed = one-after old.faults mid.faults new.faults h (says-counts _ mid new says)
+run-counts end.NumbersSpent old mid new (inr (is, h)) says done failed = cc
+run-counts end.Memory old mid new (inl h) says done failed = inl (one-after old.faults mid.faults new.faults h (says-counts _ mid new says))
+run-counts end.Memory old mid new (inr (is, h)) says done failed = two-after old.faults mid.faults new.faults h (says-counts _ mid new says)

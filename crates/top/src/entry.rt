@@ -1,9 +1,9 @@
-ghost use Rattle.std.specs.Prelude.{◌≡◌, ◌≢◌, ◌≤◌, ◌↔◌, [], Option, Some, List, ℕ, OnErr, OnOk};
-ghost use Rattle.rig.specs.Faults.{HasRisen};
+// The top call: the words, the run, and the last line.
+ghost use Rattle.std.specs.Prelude.{◌≡◌, ◌≢◌, ◌↔◌, [], Some};
 ghost use Rattle.rig.specs.Flow.{Flow};
-ghost use Rattle.rig.specs.Written.{Adds, AddsPrefix};
+ghost use Rattle.rig.specs.Written.{PutsOut};
 ghost use Rattle.top.specs.LastLine.{last_line, script_fault, usage_line};
-ghost use Rattle.top.specs.Outcome.{IsReplay, Says};
+ghost use Rattle.top.specs.Outcome.{CountsWrites, IsReplay, Says, read_faults};
 
 use crate::status::status_of;
 use crate::{Program, Status};
@@ -24,16 +24,16 @@ pub fn run<R: Rig, I: Source, O: Sink>(
 ) -> Status
     // The words decide whether anything is run.
     ensures usage { (result ≡ Status.Usage) ↔ (words.now ≢ []) }
-    ensures usage_line { words.now ≢ [] → Says usage_line (O.written out.old) (O.written out.new) (O.faults out.old) (O.faults out.new) }
-    ensures unread { words.now ≢ [] → I.flow input.new ≡ I.flow input.old }
+    ensures usage_line { words.now ≢ [] → Says usage_line (O.outgoing out.old) (O.outgoing out.new) }
+    ensures unread { words.now ≢ [] → I.incoming input.new ≡ I.incoming input.old }
 
     // What is written of a script, and what of it was read.
-    ensures replay { words.now ≡ [] → (flow : Flow) → I.flow input.old ≡ Some flow →
-        IsReplay flow (I.flow input.new) (O.written out.old) (O.written out.new) (O.faults out.old) (O.faults out.new) result }
+    ensures replay { words.now ≡ [] → (flow : Flow) → (I.incoming input.old).flow ≡ Some flow →
+        IsReplay flow (I.incoming input.new).flow (O.outgoing out.old) (O.outgoing out.new) result }
 
-    // A fault comes only where its object counted one in this run.
-    ensures read_fault { result ≡ Status.ReadFault → HasRisen (I.faults input.old) (I.faults input.new) }
-    ensures write_fault { result ≡ Status.WriteFault → HasRisen (O.faults out.old) (O.faults out.new) }
+    // A call of the source or the sink that fails ends the run, and it ends so only where one failed.
+    ensures reads { (I.incoming input.new).faults ≡ read_faults result (I.incoming input.old).faults }
+    ensures writes { CountsWrites result (O.outgoing out.old).faults (O.outgoing out.new).faults }
 
     ensures rig { rig.new ≡ rig.old }
 {
@@ -50,12 +50,12 @@ fn run_replay<I: Source, O: Sink>(
     out: &mut O,
 ) -> Status
     ensures usage { (result ≡ Status.Usage) ↔ (words.now ≢ []) }
-    ensures usage_line { words.now ≢ [] → Says usage_line (O.written out.old) (O.written out.new) (O.faults out.old) (O.faults out.new) }
-    ensures unread { words.now ≢ [] → I.flow input.new ≡ I.flow input.old }
-    ensures replay { words.now ≡ [] → (flow : Flow) → I.flow input.old ≡ Some flow →
-        IsReplay flow (I.flow input.new) (O.written out.old) (O.written out.new) (O.faults out.old) (O.faults out.new) result }
-    ensures read_fault { result ≡ Status.ReadFault → HasRisen (I.faults input.old) (I.faults input.new) }
-    ensures write_fault { result ≡ Status.WriteFault → HasRisen (O.faults out.old) (O.faults out.new) }
+    ensures usage_line { words.now ≢ [] → Says usage_line (O.outgoing out.old) (O.outgoing out.new) }
+    ensures unread { words.now ≢ [] → I.incoming input.new ≡ I.incoming input.old }
+    ensures replay { words.now ≡ [] → (flow : Flow) → (I.incoming input.old).flow ≡ Some flow →
+        IsReplay flow (I.incoming input.new).flow (O.outgoing out.old) (O.outgoing out.new) result }
+    ensures reads { (I.incoming input.new).faults ≡ read_faults result (I.incoming input.old).faults }
+    ensures writes { CountsWrites result (O.outgoing out.old).faults (O.outgoing out.new).faults }
 {
     if !words.is_empty() {
         let _ = say(b"usage: replay\n", out);
@@ -67,22 +67,18 @@ fn run_replay<I: Source, O: Sink>(
 }
 
 // Writes a text, whole or in a part.
-#[tactic(auto, unfolding(crate::specs::Outcome::Says))]
 fn say<O: Sink>(text: &[u8], out: &mut O) -> Result<(), WriteFailed>
-    ensures says { Says text.now (O.written out.old) (O.written out.new) (O.faults out.old) (O.faults out.new) }
-    ensures all { OnOk result (Adds (O.written out.old) (O.written out.new) text.now) }
-    ensures failed { OnErr result (AddsPrefix (O.written out.old) (O.written out.new) text.now × HasRisen (O.faults out.old) (O.faults out.new)) }
-    ensures faults { O.faults out.old ≤ O.faults out.new }
+    ensures { PutsOut text.now result (O.outgoing out.old) (O.outgoing out.new) }
 {
     out.write(text)
 }
 
 // Writes the last line of a script's end, where it has one. Whether that fails changes no status.
-#[tactic(auto, unfolding(crate::specs::LastLine::last_line, crate::specs::Outcome::Says))]
+#[tactic(auto, unfolding(crate::specs::LastLine::last_line))]
 fn say_last_line<O: Sink>(end: ReplayEnd, out: &mut O) -> Result<(), WriteFailed>
-    ensures says { Says (last_line end) (O.written out.old) (O.written out.new) (O.faults out.old) (O.faults out.new) }
-    ensures faults { O.faults out.old ≤ O.faults out.new }
-    ensures silent { end ≡ ReplayEnd.WriteFault → O.faults out.new ≡ O.faults out.old }
+    ensures says { PutsOut (last_line end) result (O.outgoing out.old) (O.outgoing out.new) }
+    ensures done { end ≡ ReplayEnd.Done → O.outgoing out.new ≡ O.outgoing out.old }
+    ensures failed { end ≡ ReplayEnd.WriteFault → O.outgoing out.new ≡ O.outgoing out.old }
 {
     match end {
         ReplayEnd::Done | ReplayEnd::WriteFault => Ok(()),
@@ -95,8 +91,7 @@ fn say_last_line<O: Sink>(end: ReplayEnd, out: &mut O) -> Result<(), WriteFailed
 
 // Writes the line in parts, so that it takes no memory.
 fn say_script_fault<O: Sink>(line: u64, out: &mut O) -> Result<(), WriteFailed>
-    ensures says { Says (script_fault line) (O.written out.old) (O.written out.new) (O.faults out.old) (O.faults out.new) }
-    ensures faults { O.faults out.old ≤ O.faults out.new }
+    ensures { PutsOut (script_fault line) result (O.outgoing out.old) (O.outgoing out.new) }
 {
     let mut number = Buffer::new();
     say(b"script fault in line ", out)?;

@@ -86,7 +86,8 @@ fn failing_sink(alloc: Global, number: u64, prefix: usize) -> Result<MemSink, Fa
 
 #[test]
 fn a_line_is_kept_before_its_answer(rt: HostRuntime) -> Result<(), Fail> {
-    // The writes are three answers and the end line.
+    // Each read of 20 bytes ends a line, and what it says is written before the next: the writes are three
+    // answers and the end line.
     let table = [
         (1u64, FILES[1]),
         (2, FILES[2]),
@@ -96,6 +97,7 @@ fn a_line_is_kept_before_its_answer(rt: HostRuntime) -> Result<(), Fail> {
     for (number, file) in &table {
         for prefix in [0usize, 6] {
             let mut input = MemSource::from_slice(rt.alloc(), THREE_LINES)?;
+            input.set_piece(20);
             let mut out = failing_sink(rt.alloc(), *number, prefix)?;
             check(&rt, &mut input, &mut out, ReplayEnd::WriteFault, file)?;
         }

@@ -209,7 +209,8 @@ fn half_a_line_before_a_fault(rt: HostRuntime) -> Result<(), Fail> {
 
 #[test]
 fn failing_writes(rt: HostRuntime) -> Result<(), Fail> {
-    // Each failing write leaves its first six bytes.
+    // Each read of 20 bytes ends a line, and what it says is written before the next. Each failing write
+    // leaves its first six bytes.
     let table = [
         (1u64, "answer"),
         (2, "answer 200 {\"ids\":[\"evt-1\"],\"status\":200}\nanswer"),
@@ -224,6 +225,7 @@ fn failing_writes(rt: HostRuntime) -> Result<(), Fail> {
     ];
     for (write, printed) in &table {
         let mut input = MemSource::from_slice(rt.alloc(), THREE_LINES)?;
+        input.set_piece(20);
         let mut out = MemSink::new(rt.alloc());
         out.fail_write(FailedWrite {
             number: *write,

@@ -16,6 +16,16 @@ returns-in_default-clause-units c = units_at c.args.text.now _ (returns-in_defau
 pub signed-requires : goal.signed-requires
 signed-requires c = multiple_small _ _ _ c.in-Some-magnitude.magnitude c.in-Some-magnitude.ensures
 
+pub returns-in-Some-magnitude-clause-bound : goal.returns-in-Some-magnitude-clause-bound
+returns-in-Some-magnitude-clause-bound c =
+    let small = multiple_small _ _ _ c.in-Some-magnitude.magnitude c.in-Some-magnitude.ensures in
+    let size : unsigned_abs c.signed.result ≡ c.in-Some-magnitude.magnitude =
+    ap unsigned_abs c.signed.ensures ∙ signed_abs c.in-Some.number.negative c.in-Some-magnitude.magnitude in
+    let fits : unsigned_abs c.signed.result < 2 ^ 127 = omega arith in
+    let same = to_z-of_z w128 c.signed.result (fits_signed_from_abs w128 c.signed.result fits) in
+    let abs = ap unsigned_abs same in
+    omega arith
+
 pub returns-in-Some-magnitude-clause-value : goal.returns-in-Some-magnitude-clause-value
 returns-in-Some-magnitude-clause-value c =
     let small = multiple_small _ _ _ c.in-Some-magnitude.magnitude c.in-Some-magnitude.ensures in

@@ -1,7 +1,7 @@
 use Rattle.std.proofs.Common.{cond, None, Some, sym, ◌∙◌, ap}
 use Rattle.kinds.specs.Seen.{find_seen}
 use Rattle.intake.proofs.seen.Seen.find.Goals as goal
-use Rattle.kinds.proofs.Texts.{text_found}
+use Rattle.lists.proofs.Texts.{text_found}
 use Rattle.intake.proofs.Ids.{seen_from_none, seen_from_some}
 
 pub returns-in_err-place : goal.returns-in_err-place

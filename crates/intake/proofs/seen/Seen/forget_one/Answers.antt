@@ -2,7 +2,7 @@ use Rattle.std.proofs.Common.{length, ◌∙◌, ap, arith}
 use Rattle.kinds.specs.Seen.{remembered}
 use Rattle.intake.specs.Number.{has_number}
 use Rattle.intake.proofs.seen.Seen.forget_one.Goals as goal
-use Rattle.kinds.proofs.Texts.{puts_removed}
+use Rattle.lists.proofs.Texts.{puts_removed}
 use Rattle.intake.proofs.Ids.{seen_dropped, weight_found, remembered_dropped, fewer_without}
 
 pub overflow_sub-self : goal.overflow_sub-self

@@ -4,7 +4,7 @@ use Rattle.kinds.specs.declared.seen.SeenEntry.{SeenEntry}
 use Rattle.kinds.specs.Seen.{note_seen}
 use Rattle.intake.specs.Number.{has_number, without_number}
 use Rattle.intake.proofs.seen.Seen.note.Goals as goal
-use Rattle.kinds.proofs.Texts.{text_found, key_text, puts_inserted}
+use Rattle.lists.proofs.Texts.{text_found, key_text, puts_inserted}
 use Rattle.intake.proofs.Ids.{seen_added, seen_replaced, note_undone, seen_undone, grown_by}
 
 abbrev noted : List ℕ → ℕ → ℕ → SeenEntry

@@ -5,7 +5,7 @@ use Rattle.json_text.proofs.Shown.{moves}
 use Rattle.json_text.proofs.Laying.{laid-turn}
 use Rattle.json_text.proofs.Arms.{step-separates}
 use Rattle.json_text.specs.Grammar.{parts_at}
-use Rattle.json_text.specs.Machine.{next, after, closes}
+use Rattle.json_text.specs.Automaton.{next, after, closes}
 use Rattle.json_text.proofs.reader.Reader.after.Goals as goal
 
 pub returns-then-is_space : goal.returns-then-is_space

@@ -3,7 +3,7 @@ use Rattle.std.proofs.Common.{[], ◌∷◌, refl, sym, ◌∙◌, ap, subst}
 use Rattle.json_text.proofs.Shown.{begins, as-answer, not-json-answer}
 use Rattle.json_text.proofs.Laying.{laid-turn}
 use Rattle.json_text.proofs.Arms.{begin-quote, begin-values, begin-nothing}
-use Rattle.json_text.specs.Machine.{text_at, begin_value, takes_values}
+use Rattle.json_text.specs.Automaton.{text_at, begin_value, takes_values}
 use Rattle.json_text.specs.Reading.{IsMode}
 use Rattle.json_text.proofs.reader.Reader.begin.Goals as goal
 

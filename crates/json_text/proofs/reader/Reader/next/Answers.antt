@@ -2,7 +2,7 @@
 use Rattle.std.proofs.Common.{refl, sym, ◌∙◌}
 use Rattle.json_text.proofs.Reading.{space-step}
 use Rattle.json_text.proofs.Shown.{moves}
-use Rattle.json_text.specs.Machine.{next}
+use Rattle.json_text.specs.Automaton.{next}
 use Rattle.json_text.proofs.reader.Reader.next.Goals as goal
 
 pub returns-then-is_space : goal.returns-then-is_space

@@ -1,11 +1,11 @@
--- Each arm answers as the machine in its mode.
+-- Each arm answers as the automaton in its mode.
 use Rattle.std.proofs.Common.{sym, ◌∙◌, ap, subst}
 use Rattle.json_text.proofs.Reading.{step-in-is}
 use Rattle.json_text.proofs.Shown.{as-answer, holds-stays}
 use Rattle.json_text.proofs.Arms.{from-first, from-next, from-after}
-use Rattle.json_text.specs.Machine.{first, next, after, step_in}
+use Rattle.json_text.specs.Automaton.{first, next, after, step_in}
 use Rattle.json_text.specs.Reading.{IsMode}
-use Rattle.json_text.specs.Machine.{token}
+use Rattle.json_text.specs.Automaton.{token}
 use Rattle.json_text.proofs.reader.Reader.step.Goals as goal
 
 pub returns-in-First : goal.returns-in-First

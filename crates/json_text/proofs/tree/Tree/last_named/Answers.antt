@@ -1,7 +1,7 @@
 -- Each turn takes a name and the value behind it.
 use Rattle.std.proofs.Common.{◌≡◌, ◌+◌, ◌*◌, ◌/◌, ap, sym, ◌∙◌, arith, length, subst, Some}
 use Rattle.std.specs.Prelude.{bytes_eq, cond}
-use Rattle.json_text.proofs.Members.{Found, found-start, member-here, found-on, found-end}
+use Rattle.json_text.proofs.Named.{Found, found-start, member-here, found-on, found-end}
 use Rattle.json_text.proofs.Walking.{IsPartAt, first-part}
 use Rattle.json_text.specs.Nodes.{value_at, parts_of, nodes, IsNodeOf}
 use Rattle.json_text.specs.Text.{unescaped}

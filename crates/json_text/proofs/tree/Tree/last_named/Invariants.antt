@@ -1,6 +1,6 @@
 -- The index is that of the next name, and what was found is the last of the name before it.
 use Rattle.std.proofs.Common.{◌≡◌, ◌*◌, ◌/◌, length}
-use Rattle.json_text.proofs.Members.{Found}
+use Rattle.json_text.proofs.Named.{Found}
 use Rattle.json_text.proofs.Walking.{IsPartAt}
 use Rattle.json_text.specs.Nodes.{value_at, parts_of}
 use Rattle.json_text.proofs.tree.Tree.last_named.Given as goal

@@ -1,4 +1,4 @@
--- Each step is the machine's, and so is the end.
+-- Each step is the automaton's, and so is the end.
 use Rattle.std.proofs.Common.{◌≡◌, sym, refl, subst, length, arith}
 use Rattle.std.proofs.lemmas.Result.{err_from_is_err_and}
 use Rattle.json_text.proofs.Deciding.{step-decides, end-decides}
@@ -33,10 +33,10 @@ pub returns-clause-grammar : goal.returns-clause-grammar
 returns-clause-grammar c = let i = c.loop-at.invariant in
     let e : c.loop-at.at ≡ length c.args.bytes.now = (let t = c.loop-at-test.false in let b = c.loop-at.auto.at-end in omega (arith, t, b)) in
     reads-result c.args.bytes.now c.loop-at.reader c.loop-at.at i e c.finish.result
-    (subst (λ w. Ends w c.loop-at.reader i.here) (sym i.shows.source) (reads-end c.args.bytes.now c.loop-at.reader c.loop-at.at i e)) (c.finish.ensures i.here)
+    (subst (λ w. Ends w c.loop-at.reader i.here) (sym i.shows.source) (reads-end c.args.bytes.now c.loop-at.reader c.loop-at.at i e)) (c.finish.ensures.value i.here)
 
 pub returns-clause-decided : goal.returns-clause-decided
 returns-clause-decided c = let i = c.loop-at.invariant in
     let e : c.loop-at.at ≡ length c.args.bytes.now = (let t = c.loop-at-test.false in let b = c.loop-at.auto.at-end in omega (arith, t, b)) in
     end-decides c.args.bytes.now c.loop-at.reader c.loop-at.at i e c.finish.result
-    (c.finish.ensures i.here (subst (λ w. Ends w c.loop-at.reader i.here) (sym i.shows.source) (reads-end c.args.bytes.now c.loop-at.reader c.loop-at.at i e)))
+    (c.finish.ensures.value i.here (subst (λ w. Ends w c.loop-at.reader i.here) (sym i.shows.source) (reads-end c.args.bytes.now c.loop-at.reader c.loop-at.at i e)))

@@ -1,4 +1,4 @@
--- The reader is where the machine is behind the bytes so far.
+-- The reader is where the automaton is behind the bytes so far.
 use Rattle.json_text.proofs.Whole.{ReadsTo}
 use Rattle.json_text.proofs.tree.Tree.read.Given as goal
 

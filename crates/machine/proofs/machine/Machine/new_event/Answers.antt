@@ -1,5 +1,6 @@
 use Rattle.std.proofs.Common.{◌+◌, None, Some, arith}
 use Rattle.machine_model.specs.State.{State}
+use Rattle.machine.specs.View.{state_of}
 use Rattle.machine_model.proofs.SoundLemmas.{sound-after_new}
 use Rattle.machine.proofs.Fresh.{fresh-above}
 use Rattle.machine.proofs.machine.Machine.new_event.Goals as goal
@@ -10,8 +11,7 @@ note-requires-clause-fresh c = fresh-above c.self.inside.events c.self.inside.mo
 
 pub invariant_of-self-2 : goal.invariant_of-self-2
 invariant_of-self-2 c =
-    let fields = c.self.inside in
-    let s : State = record { limits = fields.limits; moment = fields.moment; inputs = fields.inputs; events = fields.events; seen = fields.seen } in
+    let s : State = state_of c.self.inside in
     elim c.match-event.branch [
       | in-Some+in_ok-note w ↦ rw w.self-inside-is (rw w.in_ok-note.ensures.ok (sound-after_new (Some w.as_slice.result.now) s c.self.invariant))
       | in_default w ↦ rw w.self-inside-is (sound-after_new None s c.self.invariant)

@@ -1,0 +1,90 @@
+use crate::StepHash;
+use expr::Expr;
+use lists::{Bytes, Items};
+
+/// What an application answered to a call, as far as the server looks at it.
+#[derive(Drop)]
+pub struct ReplyIn {
+    /// From 0 to 999.
+    pub status: u16,
+    /// The field `X-Inngest-No-Retry`, where it is `true` or `false`.
+    pub no_retry: Option<bool>,
+    /// The field `Retry-After`, as it stands.
+    pub retry: Option<Bytes>,
+    pub body: Bytes,
+}
+
+/// When something is due: so many milliseconds from now, or at a moment.
+#[derive(Clone, Copy, Debug, PartialEq, Eq)]
+pub enum Time {
+    Span(u64),
+    At(u64),
+}
+
+/// What an application asks for. Texts but names are slices of the reply.
+#[derive(Drop)]
+pub enum Op {
+    StepRun {
+        hash: StepHash,
+        value: Bytes,
+    },
+    StepError {
+        hash: StepHash,
+        error: Bytes,
+    },
+    StepPlanned {
+        hash: StepHash,
+    },
+    Sleep {
+        hash: StepHash,
+        time: Time,
+    },
+    WaitForEvent {
+        hash: StepHash,
+        event: Bytes,
+        timeout: Time,
+        cond: Option<Expr>,
+    },
+    InvokeFunction {
+        hash: StepHash,
+        function: Bytes,
+        payload: Option<Bytes>,
+        timeout: Option<Time>,
+    },
+}
+
+/// When a call is made again: by the table of delays, after so many milliseconds, or at a moment.
+#[derive(Clone, Copy, Debug, PartialEq, Eq)]
+pub enum After {
+    None,
+    Millis(u64),
+    At(u64),
+}
+
+/// What a reply means.
+#[derive(Drop)]
+pub enum Outcome {
+    /// The run is over, with this output.
+    Ended {
+        output: Bytes,
+    },
+    /// The run goes on with these operations.
+    Ops {
+        ops: Items<Op>,
+        no_retry: bool,
+        after: After,
+    },
+    /// The call failed, and is made again where attempts are left.
+    Retry {
+        after: After,
+        error: Bytes,
+    },
+    /// The call failed for good.
+    NoRetry {
+        error: Bytes,
+    },
+    /// The reply can't be read, from this place of its body on.
+    Unreadable {
+        at: u64,
+    },
+}

@@ -1,0 +1,4 @@
+pub mod Elements
+pub mod Keyed
+pub mod Stored
+pub mod Texts
