@@ -1,0 +1,5 @@
+pub mod Plain
+pub mod Rows
+pub mod Sound
+pub mod TextLaws
+pub mod Whole
