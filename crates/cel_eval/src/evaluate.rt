@@ -1,0 +1,59 @@
+ghost use Rattle.std.specs.Prelude.{◌≡◌, ◌+◌, IfOk, MatchResult};
+ghost use Rattle.std.specs.Option.{option_copied};
+ghost use Rattle.lists.specs.Starved.{OrStarved};
+ghost use Rattle.cel_eval.specs.Cells.{IsInUnits};
+ghost use Rattle.cel_eval.specs.Data.{over_documents};
+ghost use Rattle.cel_eval.specs.Table.{value_of};
+ghost use Rattle.cel_eval.specs.Operands.{datum_of};
+ghost use Rattle.cel_eval.specs.Data.{seen};
+ghost use Rattle.cel_eval.specs.declared.fault.EvalFault.TheVariants as fault;
+
+use crate::operand::Operand;
+use crate::scope::Scope;
+use crate::worth::worth;
+use crate::{EvalFault, Value};
+use expr::Expr;
+use json_text::Tree;
+use kinds::Steps;
+use lists::Bytes;
+use std::alloc::Global;
+use std::sync::ledger::Ledger;
+
+/// The value of an expression, where `event` stands for the first tree and `async` for the fresh one. A condition
+/// matches where this is `true`. Conditions, keys and priorities are evaluated by it.
+pub fn eval<L: Ledger>(
+    alloc: Global,
+    expr: &Expr,
+    event: &Tree<'_>,
+    fresh: Option<&Tree<'_>>,
+    steps: &mut Steps<L>,
+) -> Result<Value, EvalFault>
+    ensures value { OrStarved fault.Memory (value_of expr.now (over_documents event.now (option_copied fresh.entry))) result }
+    ensures units { IfOk result IsInUnits }
+    ensures once { steps.new ≡ steps.old + 1 }
+{
+    steps.tick();
+    value_over(expr, &Scope::new(alloc, event, fresh))
+}
+
+fn value_over(expr: &Expr, scope: &Scope<'_, '_>) -> Result<Value, EvalFault>
+    ensures value { OrStarved fault.Memory (value_of expr.now scope.now) result }
+    ensures units { IfOk result IsInUnits }
+{
+    shown(worth(expr.term(), scope)?, scope.alloc())
+}
+
+fn shown(operand: Operand<'_, '_>, alloc: Global) -> Result<Value, EvalFault>
+    ensures value { MatchResult result (λ v. v ≡ seen (datum_of operand.entry)) (λ e. e ≡ fault.Memory) }
+    ensures units { IfOk result IsInUnits }
+{
+    match operand {
+        Operand::Null => Ok(Value::Null),
+        Operand::Bool(value) => Ok(Value::Bool(value)),
+        Operand::Number(units) => Ok(Value::Number(units.get())),
+        Operand::Text(text) => Ok(Value::Text(Bytes::from_slice(alloc, text)?)),
+        Operand::Made(text) => Ok(Value::Text(text)),
+        Operand::List(_) | Operand::Written(_) => Ok(Value::List),
+        Operand::Object(_) => Ok(Value::Object),
+    }
+}

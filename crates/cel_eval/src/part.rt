@@ -1,0 +1,158 @@
+ghost use Rattle.std.specs.Prelude.{◌≡◌, IfOk, slice_get};
+ghost use Rattle.json_text.specs.Grammar.{spelling};
+ghost use Rattle.json_text.specs.Nodes.{kind_of, len_of, item_of, items_of};
+ghost use Rattle.json_text.specs.Same.{comparison, in_range};
+ghost use Rattle.json_text.specs.Text.{member_of, has_text, text_of};
+ghost use Rattle.json_text.specs.declared.kind.Kind.TheVariants as kind;
+ghost use Rattle.text_num.specs.Units.{units_of};
+ghost use Rattle.cel_eval.specs.Data.{units_within, is_true};
+ghost use Rattle.cel_eval.specs.Equality.{is_same};
+
+use crate::EvalFault;
+use crate::units::Units;
+use json_text::{Comparison, Kind, Node, Tree};
+use lists::{Bytes, Memory};
+use std::marker::Model;
+use text_num::read_units;
+
+/// A value in a JSON text. Contracts see it as that value.
+#[derive(Drop)]
+pub(crate) struct Part<'t, 'a> {
+    tree: &'t Tree<'a>,
+    node: Node,
+}
+
+impl<'t, 'a> Model for Part<'t, 'a> {
+    ghost use Rattle.json_text.specs.Grammar.{Json};
+    ghost use Rattle.cel_eval.specs.Data.{json_code};
+    ghost use Rattle.json_text.specs.Nodes.{IsNodeOf, value_at};
+
+    ghost Value = { Json };
+
+    ghost coded = { json_code };
+
+    ghost view = { λ p. value_at p.tree.now p.node };
+
+    ghost invariant = { λ p. IsNodeOf p.tree.now p.node };
+}
+
+impl<'t, 'a> Part<'t, 'a> {
+    pub(crate) fn whole(tree: &'t Tree<'a>) -> Self
+        ensures { result ≡ tree.now.value }
+    {
+        Part {
+            tree,
+            node: tree.root(),
+        }
+    }
+
+    pub(crate) fn kind(&self) -> Kind
+        ensures { result ≡ kind_of self.now }
+    {
+        self.tree.kind(self.node)
+    }
+
+    pub(crate) fn len(&self) -> usize
+        ensures { result ≡ len_of self.now }
+    {
+        self.tree.len(self.node)
+    }
+
+    /// The value of the last member of this name.
+    pub(crate) fn member(&self, name: &[u8]) -> Option<Part<'t, 'a>>
+        ensures { result ≡ member_of self.now name.now }
+    {
+        let node = self.tree.member(self.node, name)?;
+        Some(Part {
+            tree: self.tree,
+            node,
+        })
+    }
+
+    /// The k-th item of a list, from 0.
+    pub(crate) fn item(&self, k: u128) -> Option<Part<'t, 'a>>
+        ensures { result ≡ slice_get (items_of self.now) k }
+    {
+        match self.kind() {
+            Kind::List if k < self.len() as u128 => self.part(k as usize),
+            _ => None,
+        }
+    }
+
+    fn part(&self, k: usize) -> Option<Part<'t, 'a>>
+        ensures { result ≡ item_of self.now k }
+    {
+        let node = self.tree.item(self.node, k)?;
+        Some(Part {
+            tree: self.tree,
+            node,
+        })
+    }
+
+    pub(crate) fn is_text(&self, text: &[u8]) -> bool
+        ensures { result ≡ has_text text.now self.now }
+    {
+        self.tree.is_text(self.node, text)
+    }
+
+    /// The part of the source.
+    pub(crate) fn spelling(&self) -> &'a [u8]
+        ensures { result.now ≡ spelling self.now }
+    {
+        self.tree.slice(self.node)
+    }
+
+    /// The text of a string.
+    pub(crate) fn unescaped(&self) -> Result<Bytes, Memory>
+        requires { kind_of self.now ≡ kind.Text }
+        ensures { IfOk result (λ text. text ≡ text_of self.now) }
+    {
+        self.tree.text_of(self.node)
+    }
+
+    /// Of a literal, whether it is `true`.
+    pub(crate) fn is_true(&self) -> bool
+        ensures { result ≡ is_true self.now }
+    {
+        self.spelling() == b"true".as_slice()
+    }
+
+    /// The units of a number.
+    pub(crate) fn units(&self) -> Result<Units, EvalFault>
+        ensures { result ≡ units_within (units_of (spelling self.now)) }
+    {
+        match read_units(self.spelling()) {
+            Ok(units) => Units::new(units),
+            Err(_) => Err(EvalFault::Range),
+        }
+    }
+
+    pub(crate) fn compare(&self, other: &Part<'_, '_>) -> Result<Comparison, Memory>
+        ensures { IfOk result (λ c. c ≡ comparison self.now other.now) }
+    {
+        self.tree.compare(self.node, other.tree, other.node)
+    }
+
+    /// Whether each number that counts is in range.
+    pub(crate) fn in_range(&self) -> Result<bool, Memory>
+        ensures { IfOk result (λ b. b ≡ in_range self.now) }
+    {
+        let same = Part {
+            tree: self.tree,
+            node: self.node,
+        };
+        match self.compare(&same)? {
+            Comparison::OutOfRange => Ok(false),
+            _ => Ok(true),
+        }
+    }
+
+    pub(crate) fn is_same(&self, other: &Part<'_, '_>) -> Result<bool, Memory>
+        ensures { IfOk result (λ b. b ≡ is_same (comparison self.now other.now)) }
+    {
+        match self.compare(other)? {
+            Comparison::Equal => Ok(true),
+            _ => Ok(false),
+        }
+    }
+}
