@@ -1,0 +1,6 @@
+pub mod Apart
+pub mod Placed
+pub mod Sorted
+pub mod Listed
+pub mod Least
+pub mod Kept
