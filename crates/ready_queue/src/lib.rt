@@ -1,0 +1,19 @@
+//! The calls that are to be made, and which of them may be made next. Stands on `kinds`, and for its gate on
+//! `concurrency_keys` and `throttle`. Contracts see the list of items in order of number.
+#![tactic(auto)]
+
+mod admission;
+mod entries;
+mod gate;
+mod item;
+mod moment;
+mod queue;
+mod walk;
+
+pub use admission::Admission;
+pub use entries::Entries;
+pub use gate::Gate;
+pub use queue::ReadyQueue;
+
+#[cfg(test)]
+mod tests;
