@@ -1,0 +1,4 @@
+mod Kept
+mod Offers
+mod Open
+mod Over
