@@ -1,0 +1,12 @@
+//! The HTTP call to an application: its path, its body and its head. Stands on `lists` and `kinds`, and
+//! promises each text byte for byte.
+#![tactic(auto)]
+
+mod body;
+mod head;
+mod parts;
+mod query;
+
+pub use body::call_text;
+pub use head::head_text;
+pub use parts::{CallParts, CallText};
