@@ -1,5 +1,10 @@
+pub mod Lengths
+pub mod Names
 pub mod Plain
+pub mod Readings
 pub mod Rows
 pub mod Sound
+pub mod Stacks
 pub mod TextLaws
+pub mod Walks
 pub mod Whole

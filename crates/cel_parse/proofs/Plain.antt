@@ -1,5 +1,5 @@
 -- The tokens of a text: `in` is always a word.
-use Rattle.std.proofs.Common.{◌≡◌, ℕ, suc, zero, Bool, true, false, cond, List, [], ◌∷◌, refl, map, length, Result, Ok, Err, drop, take, slice_index, ◌++◌, ◌-◌, ◌==◌, ◌||◌, ℤ}
+use Rattle.std.proofs.Common.{◌≡◌, ℕ, suc, zero, Bool, true, false, cond, List, [], ◌∷◌, refl, map, length, Option, Some, None, Result, Ok, Err, drop, take, slice_index, ◌++◌, ◌-◌, ◌==◌, ◌||◌, ℤ}
 use Rattle.text_num.specs.declared.fault.NumFault.{NumFault}
 use Rattle.expr.specs.declared.term.Operator.TheVariants as op
 use Rattle.std.specs.Char.{is_ascii_digit}
@@ -155,8 +155,8 @@ sign-19 c cs = plain-cond (c == 40) (cut (round_open) cs) (signs-18 c cs) (known
 
 plain-cut : (c : ℕ) (cs : List ℕ) → IsPlain (cut_at c cs)
 plain-cut c cs = plain-cond (is_ascii_digit c) (cut_number (c ∷ cs) (behind_number (c ∷ cs))) _ (plain-number (c ∷ cs) (behind_number (c ∷ cs)))
-    (plain-cond (begins_name c) (cut (word (name_front (c ∷ cs))) (behind_name (c ∷ cs))) _ (known _ refl)
-    (plain-cond (c == 34 || c == 39) (cut_string c [] plain cs) (cut_sign c cs) (plain-string cs c [] plain) (sign-19 c cs)))
+  (plain-cond (begins_name c) (cut (word (name_front (c ∷ cs))) (behind_name (c ∷ cs))) _ (known _ refl)
+  (plain-cond (c == 34 || c == 39) (cut_string c [] plain cs) (cut_sign c cs) (plain-string cs c [] plain) (sign-19 c cs)))
 
 plain-at : (whole : ℕ) (bytes : List ℕ) (on : List ℕ → List Placed) → ((rest : List ℕ) → AllPlain (map token_of (on rest))) → AllPlain (map token_of (placed_at whole bytes on))
 plain-at whole [] on h = tt

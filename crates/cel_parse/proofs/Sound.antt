@@ -1,16 +1,21 @@
 -- What is read is spelled: the frames and the tree show the tokens so far.
-use Rattle.std.proofs.Common.{◌≡◌, ℕ, suc, ◌+◌, ◌≤◌, ◌<◌, Bool, true, false, cond, nat_le, codes, List, [], ◌∷◌, ◌++◌, refl, sym, ◌∙◌, ap, subst, append_assoc, append-nil, arith, Option, Some, None}
+use Rattle.std.proofs.Common.{◌≡◌, ℕ, suc, zero, ◌+◌, ◌≤◌, ◌<◌, Bool, true, false, cond, nat_le, codes, bytes_eq, List, [], ◌∷◌, ◌++◌, refl, sym, ◌∙◌, ap, subst, append_assoc, append-nil, arith, Option, Some, None}
 use Rattle.std.specs.Prelude.{⊤}
 use Rattle.lists.proofs.Texts.{bytes_same}
+use Rattle.expr.specs.declared.term.Source.TheVariants.{Event, Async}
+use Rattle.expr.specs.declared.term.Sign.{Sign}
 use Rattle.expr.specs.declared.term.Sign.TheVariants as sign
 use Rattle.expr.specs.declared.term.Operator.{Operator}
 use Rattle.expr.specs.declared.term.Operator.TheVariants as op
+use Rattle.expr.specs.declared.term.Function.{Function}
+use Rattle.expr.specs.declared.term.Function.TheVariants as function
 use Rattle.expr.specs.declared.term.Method.{Method}
+use Rattle.expr.specs.declared.term.Method.TheVariants as m
 use Rattle.expr.specs.Tokens.{Token, word, quoted, operator, exclaim, round_open, round_close, square_open, square_close, dot, comma, question, colon, tokens_of}
 use Rattle.expr.specs.Tokens as token
-use Rattle.expr.specs.Tree.{Tree, null, boolean, number, text, source, group, list, member, index, has, call, method, signed, binary, choice, none, more}
-use Rattle.expr.specs.Reading.{atom_of, callee_of, method_of, is_in, rank_of, Frame, left, prefix, test, either, round, square, place, asked, argument, behind, Held, held, State, want, enter, have, behind_dot, reduce, opens, Step, goes, refused, too_deep, over, is_asked, atom_or_callee, close_empty, minus_sign, step_want, step_enter, asked_of, close_round, close_square, next_item, other_branch, operand_left, tested, operate, begin_method, method_or_none, step_have, step_dot, step, run, only_in, end_in, finish, read_tokens}
-use Rattle.cel_parse.specs.Grammar.{function_name, method_name, sign_token, operator_token, comma_behind, spell, spell_all, rank, Fits, FitAll, Lies, LieAll, IsTree}
+use Rattle.expr.specs.Tree.{Tree, null, boolean, number, text, source, group, list, member, index, has, call, method, signed, binary, choice, Trees, none, more}
+use Rattle.expr.specs.Reading.{atom_of, callee_of, method_of, is_in, rank_of, Frame, left, prefix, test, either, round, square, place, asked, argument, behind, Held, held, State, want, enter, have, behind_dot, reduce, opens, Step, goes, refused, too_deep, over, is_asked, unless_asked, atom_or_callee, close_empty, minus_sign, step_want, step_enter, asked_of, close_round, close_square, next_item, other_branch, operand_left, tested, operate, begin_method, method_or_none, step_have, step_dot, step, run, only_in, only, end_in, finish, read_tokens}
+use Rattle.cel_parse.specs.Grammar.{source_name, function_name, method_name, sign_token, operator_token, comma_behind, spell, spell_all, rank, Fits, FitAll, Lies, LieAll, IsTree}
 use Rattle.cel_parse.proofs.Whole.{Room, room-up, rank-below, rank-above, free}
 
 abbrev pub before : Frame → List Token
@@ -115,14 +120,14 @@ three-parts x a b t c d = two-parts x a (b ++ d ∷ []) t c ∙ ap (λ (v : List
 reduce-puts : (most r : ℕ) (fs : List Frame) (t : Tree) (w : List Token) → below fs ++ spell t ≡ w → Fits t → Stands most fs → Lies most (opens fs) t → Room fs (rank t) → r ≤ rank t → Put most r w (reduce r fs t)
 reduce-puts most r [] t w e f s d m l = record { spelled = e; fits = f; stands = s; lies = d; room = λ k. tt; high = l }
 reduce-puts most r (left o a ∷ fs) t w e f s d m l = put-cond most r w (nat_le r (rank_of o)) _ _
-    (λ y. reduce-puts most r fs (binary o a t) w (sym (two-parts (below fs) (spell a) [] (spell t) (operator_token o)) ∙ e) (s.0, f, s.1, m) s.3 (s.4, d) s.2 (grind (arith, y)))
-    (λ y. record { spelled = e; fits = f; stands = s; lies = d; room = λ k. grind (arith, y); high = l })
+  (λ y. reduce-puts most r fs (binary o a t) w (sym (two-parts (below fs) (spell a) [] (spell t) (operator_token o)) ∙ e) (s.0, f, s.1, m) s.3 (s.4, d) s.2 (grind (arith, y)))
+  (λ y. record { spelled = e; fits = f; stands = s; lies = d; room = λ k. grind (arith, y); high = l })
 reduce-puts most r (prefix x ∷ fs) t w e f s d m l = put-cond most r w (nat_le r 6) _ _
-    (λ y. reduce-puts most r fs (signed x t) w (sym (append_assoc (below fs) (sign_token x ∷ []) (spell t)) ∙ e) (f, m) s.1 (s.0, d) s.2 (grind (arith, y)))
-    (λ y. record { spelled = e; fits = f; stands = s; lies = d; room = λ k. grind (arith, y); high = l })
+  (λ y. reduce-puts most r fs (signed x t) w (sym (append_assoc (below fs) (sign_token x ∷ []) (spell t)) ∙ e) (f, m) s.1 (s.0, d) s.2 (grind (arith, y)))
+  (λ y. record { spelled = e; fits = f; stands = s; lies = d; room = λ k. grind (arith, y); high = l })
 reduce-puts most r (either c a ∷ fs) t w e f s d m l = put-cond most r w (nat_le r 0) _ _
-    (λ y. reduce-puts most r fs (choice c a t) w (sym (three-parts (below fs) (spell c) (spell a) (spell t) question colon) ∙ e) (s.3, s.6, f, s.4) s.1 (s.5, s.0, s.7, d) s.2 (grind (arith, y)))
-    (λ y. record { spelled = e; fits = f; stands = s; lies = d; room = λ k. tt; high = l })
+  (λ y. reduce-puts most r fs (choice c a t) w (sym (three-parts (below fs) (spell c) (spell a) (spell t) question colon) ∙ e) (s.3, s.6, f, s.4) s.1 (s.5, s.0, s.7, d) s.2 (grind (arith, y)))
+  (λ y. record { spelled = e; fits = f; stands = s; lies = d; room = λ k. tt; high = l })
 reduce-puts most r (test c ∷ fs) t w e f s d m l = record { spelled = e; fits = f; stands = s; lies = d; room = λ k. tt; high = l }
 reduce-puts most r (round ∷ fs) t w e f s d m l = record { spelled = e; fits = f; stands = s; lies = d; room = λ k. tt; high = l }
 reduce-puts most r (square ts ∷ fs) t w e f s d m l = record { spelled = e; fits = f; stands = s; lies = d; room = λ k. tt; high = l }
@@ -204,10 +209,10 @@ no-atom w t e = absurd (cc)
 atom-is : (w : List ℕ) (t : Tree) → atom_of w ≡ Some t → IsAtom w t
 unfolding atom_of
 atom-is w t e = atom-or w (codes "true") _ _ t _ (bytes_same w (codes "true")) (record { fits = tt; high = omega arith; lies = λ most n. tt; spelled = refl })
-    (atom-or w (codes "false") _ _ t _ (bytes_same w (codes "false")) (record { fits = tt; high = omega arith; lies = λ most n. tt; spelled = refl })
-    (atom-or w (codes "null") _ _ t _ (bytes_same w (codes "null")) (record { fits = tt; high = omega arith; lies = λ most n. tt; spelled = refl })
-    (atom-or w (codes "event") _ _ t _ (bytes_same w (codes "event")) (record { fits = tt; high = omega arith; lies = λ most n. tt; spelled = refl })
-    (atom-or w (codes "async") _ _ t _ (bytes_same w (codes "async")) (record { fits = tt; high = omega arith; lies = λ most n. tt; spelled = refl }) (no-atom w t))))) e
+  (atom-or w (codes "false") _ _ t _ (bytes_same w (codes "false")) (record { fits = tt; high = omega arith; lies = λ most n. tt; spelled = refl })
+  (atom-or w (codes "null") _ _ t _ (bytes_same w (codes "null")) (record { fits = tt; high = omega arith; lies = λ most n. tt; spelled = refl })
+  (atom-or w (codes "event") _ _ t _ (bytes_same w (codes "event")) (record { fits = tt; high = omega arith; lies = λ most n. tt; spelled = refl })
+  (atom-or w (codes "async") _ _ t _ (bytes_same w (codes "async")) (record { fits = tt; high = omega arith; lies = λ most n. tt; spelled = refl }) (no-atom w t))))) e
 
 record IsCallee (w : List ℕ) (f : Frame) : Type 0 where
   enters : (most : ℕ) (fs : List Frame) → Stands most fs → Enters most fs f
@@ -223,8 +228,8 @@ no-callee w f e = absurd (cc)
 callee-is : (w : List ℕ) (f : Frame) → callee_of w ≡ Some f → IsCallee w f
 unfolding callee_of
 callee-is w f e = callee-or w (codes "has") _ _ f _ (bytes_same w (codes "has")) (record { enters = λ most fs s. s; spelled = refl })
-    (callee-or w (codes "size") _ _ f _ (bytes_same w (codes "size")) (record { enters = λ most fs s. s; spelled = refl })
-    (callee-or w (codes "string") _ _ f _ (bytes_same w (codes "string")) (record { enters = λ most fs s. s; spelled = refl }) (no-callee w f))) e
+  (callee-or w (codes "size") _ _ f _ (bytes_same w (codes "size")) (record { enters = λ most fs s. s; spelled = refl })
+  (callee-or w (codes "string") _ _ f _ (bytes_same w (codes "string")) (record { enters = λ most fs s. s; spelled = refl }) (no-callee w f))) e
 
 method-or : (w c : List ℕ) (b : Bool) (x k : Method) (rest : Option Method) → (b ≡ true → w ≡ c) → method_name x ≡ c → (rest ≡ Some k → method_name k ≡ w) → cond b (Some x) rest ≡ Some k → method_name k ≡ w
 method-or w c true x k rest same i h e = let is : x ≡ k = cc in ap method_name (sym is) ∙ i ∙ sym (same refl)
@@ -345,7 +350,7 @@ method-keeps : (most : ℕ) (fs : List Frame) (a : Tree) (n : List ℕ) (o : Opt
     → Keeps most ((below fs ++ (spell a ++ dot ∷ word n ∷ [])) ++ round_open ∷ []) (method_or_none most fs a o)
 method-keeps most fs a n None h s f r d = tt
 method-keeps most fs a n (Some k) h s f r d = over-keeps most (behind k a) fs _ (λ x. (x, s, f, r, d))
-    (ap (λ (v : List ℕ). below fs ++ (spell a ++ dot ∷ word v ∷ round_open ∷ [])) (h k refl) ∙ sym (two-parts (below fs) (spell a) (word n ∷ []) (round_open ∷ []) dot))
+  (ap (λ (v : List ℕ). below fs ++ (spell a ++ dot ∷ word v ∷ round_open ∷ [])) (h k refl) ∙ sym (two-parts (below fs) (spell a) (word n ∷ []) (round_open ∷ []) dot))
 
 begin-keeps : (most : ℕ) (fs : List Frame) (t : Tree) → GoodHeld most (held fs t) → Keeps most ((below fs ++ spell t) ++ round_open ∷ []) (begin_method most fs t)
 begin-keeps most fs (member a n) g = let f = g.1 in method-keeps most fs a n (method_of n) (method-is n) g.0 f.0 f.1 g.3
@@ -480,7 +485,7 @@ run-keeps most [] o w y k = subst (λ (v : List Token). Keeps most v o) (sym (ap
 run-keeps most (x ∷ xs) refused w y k = tt
 run-keeps most (x ∷ xs) too_deep w y k = tt
 run-keeps most (x ∷ xs) (goes s) w y k = subst (λ (v : List Token). Keeps most v (run most (step most s x) xs)) (append_assoc w (x ∷ []) xs)
-    (run-keeps most xs (step most s x) (w ++ x ∷ []) y.1 (subst (λ (v : List Token). Keeps most (v ++ x ∷ []) (step most s x)) k.1 (step-keeps most s x y.0 k.0)))
+  (run-keeps most xs (step most s x) (w ++ x ∷ []) y.1 (subst (λ (v : List Token). Keeps most (v ++ x ∷ []) (step most s x)) k.1 (step-keeps most s x y.0 k.0)))
 
 only-spelled : (most : ℕ) (fs : List Frame) (t u : Tree) (w : List Token) → Put most 0 w (held fs t) → only_in fs t ≡ Some u → IsTree most w u
 only-spelled most [] t u w p e = let same : t ≡ u = cc in subst (λ (v : Tree). IsTree most w v) same (record { spelled = p.spelled; fits = p.fits; lies = p.lies })

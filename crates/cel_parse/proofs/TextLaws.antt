@@ -3,7 +3,7 @@ use Rattle.std.proofs.Common.{◌≡◌, ℕ, ◌≤◌, List, length, true, fal
 use Rattle.expr.specs.Tree.{Tree}
 use Rattle.expr.specs.Tokens.{tokens_of}
 use Rattle.expr.specs.Reading.{read_tokens, tree_of_text, deepest, longest}
-use Rattle.cel_parse.specs.Grammar.{IsExpression}
+use Rattle.cel_parse.specs.Grammar.{IsTree, IsExpression}
 use Rattle.cel_parse.proofs.Plain.{all-plain}
 use Rattle.cel_parse.proofs.Sound.{read-is-spelled}
 use Rattle.cel_parse.proofs.Whole.{spelled-is-read, le-true}
@@ -24,9 +24,8 @@ same-tree w t u a b = some-same t u (sym (text-spelled w t a) ∙ text-spelled w
 
 short-of : (n : ℕ) (o : Option Tree) (t : Tree) → cond (nat_le n longest) o None ≡ Some t → (n ≤ longest) × (o ≡ Some t)
 short-of n o t e = elim (bool_cases (nat_le n longest)) [
-  | inl is ↦ (grind (arith, is), sym (ap (λ (b : Bool). cond b o None) is) ∙ e)
-  | inr isn't ↦ absurd (let no : None ≡ Some t = sym (ap (λ (b : Bool). cond b o None) isn't) ∙ e in cc)
-]
+    inl is ↦ (grind (arith, is), sym (ap (λ (b : Bool). cond b o None) is) ∙ e)
+  | inr isn't ↦ absurd (let no : None ≡ Some t = sym (ap (λ (b : Bool). cond b o None) isn't) ∙ e in cc) ]
 
 pub text-read : (w : List ℕ) (t : Tree) → tree_of_text w ≡ Some t → IsExpression w t
 unfolding tree_of_text

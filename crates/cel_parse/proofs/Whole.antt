@@ -1,5 +1,5 @@
 -- What is spelled is read: each tree's spelling leads to the frames and the tree that amount to it.
-use Rattle.std.proofs.Common.{◌≡◌, ℕ, suc, ◌+◌, ◌≤◌, ◌<◌, Bool, true, false, cond, nat_le, codes, List, [], ◌∷◌, ◌++◌, refl, sym, ◌∙◌, ap, subst, append_assoc, append-nil, arith, Some}
+use Rattle.std.proofs.Common.{◌≡◌, ℕ, suc, zero, ◌+◌, ◌≤◌, ◌<◌, Bool, true, false, cond, nat_le, codes, List, [], ◌∷◌, ◌++◌, refl, sym, ◌∙◌, ap, subst, append_assoc, append-nil, arith, Option, Some, None}
 use Rattle.std.specs.Prelude.{⊤}
 use Rattle.expr.specs.declared.term.Source.{Source}
 use Rattle.expr.specs.declared.term.Source.TheVariants.{Event, Async}
@@ -14,8 +14,8 @@ use Rattle.expr.specs.declared.term.Method.TheVariants as m
 use Rattle.expr.specs.Tokens.{Token, word, quoted, operator, exclaim, round_open, round_close, square_open, square_close, dot, comma, question, colon, tokens_of}
 use Rattle.expr.specs.Tokens as token
 use Rattle.expr.specs.Tree.{Tree, null, boolean, number, text, source, group, list, member, index, has, call, method, signed, binary, choice, Trees, none, more}
-use Rattle.expr.specs.Reading.{atom_of, callee_of, method_of, is_in, rank_of, Frame, left, prefix, test, either, round, square, place, asked, argument, behind, Held, held, want, enter, have, reduce, opens, Step, goes, too_deep, over, is_asked, unless_asked, close_round_in, close_square_in, next_item_in, other_branch_in, operand_left, tested, operate, begin_method, step_have, step, run, only, finish, read_tokens}
-use Rattle.cel_parse.specs.Grammar.{function_name, method_name, sign_token, operator_token, spell, spell_all, rank, Fits, FitAll, Lies, LieAll, IsTree}
+use Rattle.expr.specs.Reading.{atom_of, callee_of, method_of, is_in, rank_of, Frame, left, prefix, test, either, round, square, place, asked, argument, behind, Held, held, State, want, enter, have, behind_dot, reduce, opens, Step, goes, refused, too_deep, over, is_asked, unless_asked, close_round_in, close_square_in, next_item_in, other_branch_in, operand_left, tested, operate, begin_method, method_or_none, step_have, step, run, only, finish, read_tokens}
+use Rattle.cel_parse.specs.Grammar.{source_name, function_name, method_name, sign_token, operator_token, spell, spell_all, rank, Fits, FitAll, Lies, LieAll, IsTree}
 
 -- a tree of this rank may stand where the top frame stops
 abbrev pub Room : List Frame → ℕ → Type 0
@@ -201,8 +201,8 @@ leads-choice : (most : ℕ) (c a b : Tree) (fs : List Frame) (u v w : List Token
 leads-choice most c a b fs u v w below room l x y z = record {
   now = z.now;
   runs = λ rest. rw (append_assoc u (question ∷ (v ++ colon ∷ w)) rest, append_assoc v (colon ∷ w) rest) (x.runs (question ∷ (v ++ colon ∷ (w ++ rest)))
-      ∙ on most (v ++ colon ∷ (w ++ rest)) _ _ (asks ∙ over-goes most (test c) fs below)
-      ∙ y.runs (colon ∷ (w ++ rest)) ∙ on most (w ++ rest) _ _ (ap other_branch_in (y.amounts 0 (omega arith))) ∙ z.runs rest);
+    ∙ on most (v ++ colon ∷ (w ++ rest)) _ _ (asks ∙ over-goes most (test c) fs below)
+    ∙ y.runs (colon ∷ (w ++ rest)) ∙ on most (w ++ rest) _ _ (ap other_branch_in (y.amounts 0 (omega arith))) ∙ z.runs rest);
   amounts = λ r h. let low : r ≤ 0 = h in z.amounts r (omega (arith, low)) ∙ (rw (le-true r 0 h) refl);
 }
   where
@@ -227,8 +227,8 @@ leads-index : (most : ℕ) (a b : Tree) (fs : List Frame) (v w : List Token) →
 leads-index most a b fs v w below l x y = record {
   now = held fs (index a b);
   runs = λ rest. rw (append_assoc v (square_open ∷ (w ++ square_close ∷ [])) rest, append_assoc w (square_close ∷ []) rest) (x.runs (square_open ∷ (w ++ square_close ∷ rest))
-      ∙ on most (w ++ square_close ∷ rest) _ _ (ap (λ (h : Held). over most (place h.tree) h.frames) (same-held most a fs v l x) ∙ over-goes most (place a) fs below)
-      ∙ y.runs (square_close ∷ rest) ∙ on most rest _ _ (ap close_square_in (y.amounts 0 (omega arith))));
+    ∙ on most (w ++ square_close ∷ rest) _ _ (ap (λ (h : Held). over most (place h.tree) h.frames) (same-held most a fs v l x) ∙ over-goes most (place a) fs below)
+    ∙ y.runs (square_close ∷ rest) ∙ on most rest _ _ (ap close_square_in (y.amounts 0 (omega arith))));
   amounts = λ r h. refl;
 }
 
@@ -236,7 +236,7 @@ leads-group : (most : ℕ) (a : Tree) (fs : List Frame) (w : List Token) → ope
 leads-group most a fs w below x = record {
   now = held fs (group a);
   runs = λ rest. rw (append_assoc w (round_close ∷ []) rest) (on most (w ++ round_close ∷ rest) _ _ (over-goes most round fs below) ∙ x.runs (round_close ∷ rest)
-      ∙ on most rest _ _ (ap close_round_in (x.amounts 0 (omega arith))));
+    ∙ on most rest _ _ (ap close_round_in (x.amounts 0 (omega arith))));
   amounts = λ r h. refl;
 }
 
@@ -260,8 +260,8 @@ leads-has : (most : ℕ) (a : Tree) (n : List ℕ) (fs : List Frame) (w : List T
 leads-has most a n fs w below l x = record {
   now = held fs (has a n);
   runs = λ rest. on most (round_open ∷ ((w ++ dot ∷ word n ∷ round_close ∷ []) ++ rest)) _ _ (step-has most fs) ∙ rw (append_assoc w (dot ∷ word n ∷ round_close ∷ []) rest)
-      (on most (w ++ dot ∷ word n ∷ round_close ∷ rest) _ _ (over-goes most asked fs below) ∙ x.runs (dot ∷ word n ∷ round_close ∷ rest)
-      ∙ ap (λ (h : Held). run most (goes (have h)) (dot ∷ word n ∷ round_close ∷ rest)) (same-held most a (asked ∷ fs) w l x));
+    (on most (w ++ dot ∷ word n ∷ round_close ∷ rest) _ _ (over-goes most asked fs below) ∙ x.runs (dot ∷ word n ∷ round_close ∷ rest)
+    ∙ ap (λ (h : Held). run most (goes (have h)) (dot ∷ word n ∷ round_close ∷ rest)) (same-held most a (asked ∷ fs) w l x));
   amounts = λ r h. refl;
 }
 
@@ -270,7 +270,7 @@ leads-call : (most : ℕ) (f : Function) (a : Tree) (fs : List Frame) (w : List 
 leads-call most f a fs w below x = record {
   now = held fs (call f a);
   runs = λ rest. on most (round_open ∷ ((w ++ round_close ∷ []) ++ rest)) _ _ (step-function most f fs) ∙ rw (append_assoc w (round_close ∷ []) rest)
-      (on most (w ++ round_close ∷ rest) _ _ (over-goes most (argument f) fs below) ∙ x.runs (round_close ∷ rest) ∙ on most rest _ _ (ap close_round_in (x.amounts 0 (omega arith))));
+    (on most (w ++ round_close ∷ rest) _ _ (over-goes most (argument f) fs below) ∙ x.runs (round_close ∷ rest) ∙ on most rest _ _ (ap close_round_in (x.amounts 0 (omega arith))));
   amounts = λ r h. refl;
 }
 
@@ -279,10 +279,10 @@ leads-method : (most : ℕ) (m : Method) (a b : Tree) (fs : List Frame) (v w : L
 leads-method most m a b fs v w below l x y = record {
   now = held fs (method m a b);
   runs = λ rest. rw (append_assoc v (dot ∷ word (method_name m) ∷ round_open ∷ (w ++ round_close ∷ [])) rest, append_assoc w (round_close ∷ []) rest)
-      (x.runs (dot ∷ word (method_name m) ∷ round_open ∷ (w ++ round_close ∷ rest))
-      ∙ ap (λ (h : Held). run most (goes (have h)) (dot ∷ word (method_name m) ∷ round_open ∷ (w ++ round_close ∷ rest))) (same-held most a fs v l x)
-      ∙ on most (w ++ round_close ∷ rest) _ _ (begins-method most m a fs ∙ over-goes most (behind m a) fs below)
-      ∙ y.runs (round_close ∷ rest) ∙ on most rest _ _ (ap close_round_in (y.amounts 0 (omega arith))));
+    (x.runs (dot ∷ word (method_name m) ∷ round_open ∷ (w ++ round_close ∷ rest))
+    ∙ ap (λ (h : Held). run most (goes (have h)) (dot ∷ word (method_name m) ∷ round_open ∷ (w ++ round_close ∷ rest))) (same-held most a fs v l x)
+    ∙ on most (w ++ round_close ∷ rest) _ _ (begins-method most m a fs ∙ over-goes most (behind m a) fs below)
+    ∙ y.runs (round_close ∷ rest) ∙ on most rest _ _ (ap close_round_in (y.amounts 0 (omega arith))));
   amounts = λ r h. refl;
 }
 
@@ -317,7 +317,7 @@ leads-list most none fs w below x = record {
 leads-list most (more ts t) fs w below x = record {
   now = held fs (list (more ts t));
   runs = λ rest. rw (append_assoc w (square_close ∷ []) rest) (on most (w ++ square_close ∷ rest) _ _ (over-goes most (square none) fs below) ∙ x.runs (square_close ∷ rest)
-      ∙ on most rest _ _ (ap close_square_in x.amounts));
+    ∙ on most rest _ _ (ap close_square_in x.amounts));
   amounts = λ r h. refl;
 }
 
@@ -366,4 +366,4 @@ mutual
 pub spelled-is-read : (most : ℕ) (w : List Token) (t : Tree) → IsTree most w t → read_tokens most w ≡ Some t
 unfolding read_tokens
 spelled-is-read most w t e = let x = leads most t [] e.fits e.lies tt in
-    subst (λ (v : List Token). finish (run most (goes (want [])) v) ≡ Some t) (append-nil (spell t) ∙ e.spelled) (ap finish (x.runs []) ∙ ap only (x.amounts 0 (omega arith)))
+  subst (λ (v : List Token). finish (run most (goes (want [])) v) ≡ Some t) (append-nil (spell t) ∙ e.spelled) (ap finish (x.runs []) ∙ ap only (x.amounts 0 (omega arith)))

@@ -17,6 +17,7 @@ use Rattle.expr.specs.Reading.{rank_of, deepest, longest}
 
 -- ---- words and signs
 
+
 abbrev pub source_name : Source → List ℕ
 source_name Event = codes "event"
 source_name Async = codes "async"

@@ -1,0 +1,5 @@
+pub mod After
+pub mod Dates
+pub mod Delay
+pub mod Operations
+pub mod Outcome

@@ -1,0 +1,15 @@
+//! What an application's reply to a call means: the run's output, operations, or a failure with its error
+//! and when to try again. Stands on `json_text` for bodies and on `jiff` and `httpdate` for dates, and
+//! promises the outcome of each reply as a function of its bytes.
+#![tactic(auto)]
+
+mod after;
+mod delays;
+mod members;
+mod outcome;
+mod part;
+
+pub use delays::delay;
+
+#[cfg(test)]
+mod tests;
