@@ -30,6 +30,15 @@ impl Bytes {
         }
     }
 
+    /// An empty string with room for so many bytes, so that it takes no memory until it grows past them.
+    pub fn with_room(alloc: Global, room: usize) -> Result<Self, Memory>
+        ensures { IfOk result (λ b. b ≡ []) }
+    {
+        Ok(Bytes {
+            items: Vec::with_capacity(alloc, room)?,
+        })
+    }
+
     pub fn from_slice(alloc: Global, bytes: &[u8]) -> Result<Self, Memory>
         ensures { IfOk result (λ b. b ≡ bytes.now) }
     {

@@ -5,6 +5,8 @@ use crate::Memory;
 use std::alloc::{AllocError, Global};
 use std::cmp::Ordering;
 use std::marker::Model;
+use std::slice::Iter;
+use std::vec::IntoIter;
 
 /// A list that grows. Contracts see it as the list of its items, so that a record that holds one
 /// equals a value of a definition.
@@ -64,6 +66,41 @@ impl<T> Items<T> {
         ensures { option_copied result ≡ slice_get self.now index }
     {
         self.items.get(index)
+    }
+}
+
+/// By value, in order.
+impl<T: Drop> IntoIterator for Items<T> {
+    ghost use Rattle.std.specs.Prelude.{◌≡◌, length};
+    ghost use Rattle.std.specs.Vec.Iter.{into_iter_items, into_iter_len, into_iter_steps};
+    ghost use Rattle.std.specs.Iterator.Runs.{EveryRun, ItemsAre};
+    ghost use Rattle.std.specs.declared.alloc.Global.{Global};
+
+    type Item = T;
+
+    type IntoIter = IntoIter<T, Global>;
+
+    ghost into_iter_gives = { λ v r. (into_iter_items r ≡ v) × (into_iter_len r ≡ length v) × EveryRun (into_iter_steps {X = T} {Z = Global}) (λ p. ItemsAre p (into_iter_items p.from)) };
+
+    fn into_iter(self) -> IntoIter<T, Global> {
+        self.items.into_iter()
+    }
+}
+
+/// By reference, in order.
+impl<'a, T> IntoIterator for &'a Items<T> {
+    ghost use Rattle.std.specs.Prelude.{◌≡◌};
+    ghost use Rattle.std.specs.Slice.Iter.{iter_rest, iter_steps};
+    ghost use Rattle.std.specs.Iterator.Runs.{EveryRun, ItemsMapTo};
+
+    type Item = &'a T;
+
+    type IntoIter = Iter<'a, T>;
+
+    ghost into_iter_gives = { λ v r. (iter_rest r ≡ v.now) × EveryRun (iter_steps {A = T}) (λ p. ItemsMapTo p (λ y. y.now) (iter_rest p.from)) };
+
+    fn into_iter(self) -> Iter<'a, T> {
+        self.as_slice().iter()
     }
 }
 

@@ -3,7 +3,8 @@ use std::test::Fail;
 
 #[test]
 fn bytes_grow(rt: HostRuntime) -> Result<(), Fail> {
-    let mut bytes = Bytes::from_slice(rt.alloc(), b"ab")?;
+    let mut bytes = Bytes::with_room(rt.alloc(), 5)?;
+    bytes.extend_from_slice(b"ab")?;
     bytes.push(b'c')?;
     bytes.extend_from_slice(b"de")?;
     assert_eq!(rt; bytes.as_slice(), b"abcde".as_slice());
@@ -26,5 +27,10 @@ fn items_grow(rt: HostRuntime) -> Result<(), Fail> {
     assert_eq!(rt; items.get(1).copied(), Some(9));
     assert!(rt; items.get(2).is_none());
     assert!(rt; items == items);
+    let mut sum = 0u64;
+    for item in items {
+        sum = sum.saturating_add(item);
+    }
+    assert_eq!(rt; sum, 16);
     Ok(())
 }
