@@ -43,10 +43,10 @@ reading-more root js node left events event reading is = record {
       ∙ ap (λ (n : ℕ). followed (events ++ event ∷ []) (events_from n (map (value_at root) left))) (sym (length-append events (event ∷ [])));
 }
 
-pub reading-fault : (root : Document) (js : List Json) (node : ℕ) (left : List ℕ) (events : List EventIn) (fault : IntakeFault) → IsReading root js (node ∷ left) events → (fault ≡ Memory) ⊎ (event_of (length events) (value_at root node) ≡ Err fault) → (fault ≡ Memory) ⊎ (events_from 0 js ≡ Err fault)
-reading-fault root js node left events fault reading (inl memory) = inl memory
-reading-fault root js node left events fault reading (inr is) =
-    inr (here root js node left events reading ∙ ap (λ r. followed events (with_events r (events_from (length events + 1) (map (value_at root) left)))) is)
+pub reading-fault : (root : Document) (js : List Json) (node : ℕ) (left : List ℕ) (events : List EventIn) (fault : IntakeFault) → IsReading root js (node ∷ left) events → (event_of (length events) (value_at root node) ≡ Err fault) ⊎ (fault ≡ Memory) → (events_from 0 js ≡ Err fault) ⊎ (fault ≡ Memory)
+reading-fault root js node left events fault reading (inr memory) = inr memory
+reading-fault root js node left events fault reading (inl is) =
+    inl (here root js node left events reading ∙ ap (λ r. followed events (with_events r (events_from (length events + 1) (map (value_at root) left)))) is)
 
 pub reading-end : (root : Document) (js : List Json) (events : List EventIn) → IsReading root js [] events → events_from 0 js ≡ Ok events
 reading-end root js events reading =

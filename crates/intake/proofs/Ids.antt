@@ -8,6 +8,7 @@ use Rattle.std.specs.Str.{bytes_eq}
 use Rattle.std.specs.declared.cmp.Ordering.TheVariants.{Less}
 use Rattle.std.proofs.lemmas.Bool.{cond-true, cond-false}
 use Rattle.std.proofs.lemmas.Bool.Decides.{nat_tests}
+use Rattle.std.proofs.lemmas.List.Filters.{length-filter_both}
 use Rattle.std.proofs.lemmas.Cmp.{nat_cmp_total}
 use Rattle.std.proofs.lemmas.Map.Keys.{sorted_head, sorted_tail}
 use Rattle.kinds.specs.declared.seen.SeenEntry.{SeenEntry}
@@ -67,13 +68,7 @@ seen_from_some id moment es places w p s h = find_seen_at id moment es s.apart �
 
 none_filter : (t p : SeenEntry → Bool) (es : List SeenEntry) → find t es ≡ None → find t (filter p es) ≡ None
 none_filter t p [] h = refl
-none_filter t p (e ∷ es) h =
-    let parts = cond_none (t e) e (find t es) h in
-    by_test (p e) parts.0 (none_filter t p es parts.1)
-  where
-    by_test : (b : Bool) → t e ≡ false → find t (filter p es) ≡ None → find t (cond b (e ∷ filter p es) (filter p es)) ≡ None
-    by_test true n more = rw n more
-    by_test false n more = more
+none_filter t p (e ∷ es) h = let parts = cond_none (t e) e (find t es) h in grind (arith, parts.0, none_filter t p es parts.1)
 
 apart_filter : (p : SeenEntry → Bool) (es : List SeenEntry) → AreApart es → AreApart (filter p es)
 apart_filter p [] a = tt
@@ -352,19 +347,9 @@ remembered_dropped moment r es s a found n =
     let by_id = found_by_id r.number es r a found in
     ap (remembered moment) (same_without r.id es r s a by_id) ∙ filter_dropped (is_remembered moment) r es a by_id n
 
-filter_at_most : (p : SeenEntry → Bool) (es : List SeenEntry) → length (filter p es) ≤ length es
-filter_at_most p [] = omega arith
-filter_at_most p (e ∷ es) = by_test (p e) (filter_at_most p es)
-  where
-    by_test : (b : Bool) → length (filter p es) ≤ length es → length (cond b (e ∷ filter p es) (filter p es)) ≤ length (e ∷ es)
-    by_test true more = omega (arith, more)
-    by_test false more = omega (arith, more)
+some_passes : (t : SeenEntry → Bool) (es : List SeenEntry) (r : SeenEntry) → find t es ≡ Some r → 0 < length (filter t es)
+some_passes t [] r h = cc
+some_passes t (e ∷ es) r h = grind (arith, some_passes t es r)
 
 pub fewer_without : (t : SeenEntry → Bool) (es : List SeenEntry) (r : SeenEntry) → find t es ≡ Some r → length (filter (λ e. not (t e)) es) < length es
-fewer_without t [] r h = cc
-fewer_without t (e ∷ es) r h = by_test (t e) (fewer_without t es r) h
-  where
-    by_test : (b : Bool) → (find t es ≡ Some r → length (filter (λ x. not (t x)) es) < length es)
-        → cond b (Some e) (find t es) ≡ Some r → length (cond (not b) (e ∷ filter (λ x. not (t x)) es) (filter (λ x. not (t x)) es)) < length (e ∷ es)
-    by_test true more h = let most = filter_at_most (λ x. not (t x)) es in omega (arith, most)
-    by_test false more h = let less = more h in omega (arith, less)
+fewer_without t es r h = omega (arith, some_passes t es r h, length-filter_both t (λ e. not (t e)) (λ e. refl) es)

@@ -2,5 +2,4 @@ pub mod Number
 pub mod Order
 pub mod Places
 pub mod Events
-pub mod Reading
 pub mod Plain

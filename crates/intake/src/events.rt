@@ -1,9 +1,9 @@
-ghost use Rattle.std.specs.Prelude.{◌≡◌, ◌⊎◌, [], ◌∷◌, length, Ok, Err, MatchResult};
+ghost use Rattle.std.specs.Prelude.{◌≡◌, [], ◌∷◌};
 ghost use Rattle.json_text.specs.Nodes.{IsNodeOf, items_of, value_at, kind_of};
 ghost use Rattle.json_text.specs.declared.kind.Kind.TheVariants as kind;
 ghost use Rattle.intake.specs.Events.{event_of, events_from, events_in, events_in_body, events_of};
-ghost use Rattle.intake.specs.Reading.{Gives};
 ghost use Rattle.intake.specs.declared.fault.IntakeFault.TheVariants as fault;
+ghost use Rattle.lists.specs.Starved.{OrStarved};
 
 use crate::IntakeFault;
 use crate::members::{content_in, event_with, text_in};
@@ -23,15 +23,14 @@ const MOST_BYTES: usize = 262_144;
 /// are found event by event.
 #[tactic(auto, unfolding(crate::specs::Events::events_in_body))]
 pub fn read_events(alloc: Global, body: &[u8]) -> Result<Items<EventIn>, IntakeFault>
-    ensures { MatchResult result (λ events. events_in_body body.now ≡ Ok events)
-        (λ e. (e ≡ fault.Memory) ⊎ (events_in_body body.now ≡ Err e)) }
+    ensures { OrStarved fault.Memory (events_in_body body.now) result }
 {
     let tree = Tree::read(alloc, body)?;
     events_of(alloc, &tree)
 }
 
 fn events_of(alloc: Global, tree: &Tree<'_>) -> Result<Items<EventIn>, IntakeFault>
-    ensures { Gives (events_of tree.now.value) result }
+    ensures { OrStarved fault.Memory (events_of tree.now.value) result }
 {
     let root = tree.root();
     if tree.kind(root) == Kind::List {
@@ -44,7 +43,7 @@ fn events_of(alloc: Global, tree: &Tree<'_>) -> Result<Items<EventIn>, IntakeFau
 #[tactic(auto, unfolding(crate::specs::Events::events_from))]
 fn one_event(alloc: Global, tree: &Tree<'_>, node: Node) -> Result<Items<EventIn>, IntakeFault>
     requires { IsNodeOf tree.now node }
-    ensures { Gives (events_in (value_at tree.now node ∷ [])) result }
+    ensures { OrStarved fault.Memory (events_in (value_at tree.now node ∷ [])) result }
 {
     let mut events = Items::new(alloc);
     events.push(event_of(alloc, tree, node, 0)?)?;
@@ -54,7 +53,7 @@ fn one_event(alloc: Global, tree: &Tree<'_>, node: Node) -> Result<Items<EventIn
 fn events_in(alloc: Global, tree: &Tree<'_>, list: Node) -> Result<Items<EventIn>, IntakeFault>
     requires node { IsNodeOf tree.now list }
     requires list { kind_of (value_at tree.now list) ≡ kind.List }
-    ensures { Gives (events_in (items_of (value_at tree.now list))) result }
+    ensures { OrStarved fault.Memory (events_in (items_of (value_at tree.now list))) result }
 {
     let count = tree.len(list);
     if count > MOST_EVENTS {
@@ -68,7 +67,7 @@ fn events_in(alloc: Global, tree: &Tree<'_>, list: Node) -> Result<Items<EventIn
 /// The events of a list, in order.
 fn events_from(alloc: Global, tree: &Tree<'_>, list: Node) -> Result<Items<EventIn>, IntakeFault>
     requires { IsNodeOf tree.now list }
-    ensures { Gives (events_from 0 (items_of (value_at tree.now list))) result }
+    ensures { OrStarved fault.Memory (events_from 0 (items_of (value_at tree.now list))) result }
 {
     let mut events = Items::new(alloc);
     for node in tree.items(list) {
@@ -82,7 +81,7 @@ fn events_from(alloc: Global, tree: &Tree<'_>, list: Node) -> Result<Items<Event
 #[tactic(auto, unfolding(crate::specs::Events::event_of))]
 fn event_of(alloc: Global, tree: &Tree<'_>, node: Node, index: u64) -> Result<EventIn, IntakeFault>
     requires { IsNodeOf tree.now node }
-    ensures { Gives (event_of index (value_at tree.now node)) result }
+    ensures { OrStarved fault.Memory (event_of index (value_at tree.now node)) result }
 {
     let Some(name) = text_in(tree, node, b"name")? else {
         return Err(IntakeFault::NoName { index });

@@ -47,7 +47,9 @@ fn told(alloc: Global, body: &[u8]) -> Result<Bytes, Memory> {
     match read_events(alloc, body) {
         Ok(events) => texts(alloc, events.as_slice()),
         Err(fault) => {
-            let Out::Answer { body, .. } = fault.answer(alloc)?;
+            let Out::Answer { body, .. } = fault.answer(alloc)? else {
+                return Ok(Bytes::new(alloc));
+            };
             Ok(body)
         }
     }

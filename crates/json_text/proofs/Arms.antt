@@ -113,18 +113,6 @@ within-token x (word v rest j) h = tt
 stage-is : (a : Stage) (v : List ℕ) (st : Stage) → IsMode (code.Number a) (numeral v st) → a ≡ st
 stage-is a v st h = h
 
-word-refused : (byte : ℕ) (x : Word) (v : List ℕ) (j : Json) (f : Frame) (fs : List Frame) → (byte ≡ first_of x → ⊥) → step_in (word v (rest_of x) j) byte f fs ≡ None
-word-refused byte words.Ull v j f fs n = rw (not-eq byte 0x75 n) refl
-word-refused byte words.Ll v j f fs n = rw (not-eq byte 0x6c n) refl
-word-refused byte words.L v j f fs n = rw (not-eq byte 0x6c n) refl
-word-refused byte words.Rue v j f fs n = rw (not-eq byte 0x72 n) refl
-word-refused byte words.Ue v j f fs n = rw (not-eq byte 0x75 n) refl
-word-refused byte words.TrueE v j f fs n = rw (not-eq byte 0x65 n) refl
-word-refused byte words.Alse v j f fs n = rw (not-eq byte 0x61 n) refl
-word-refused byte words.Lse v j f fs n = rw (not-eq byte 0x6c n) refl
-word-refused byte words.Se v j f fs n = rw (not-eq byte 0x73 n) refl
-word-refused byte words.FalseE v j f fs n = rw (not-eq byte 0x65 n) refl
-
 -- the step inside a string, from what the patterns leave open
 abbrev Lands : Option Within → List ℕ → Option State → Frame → List Frame → Type 0
 Lands None v o f fs = o ≡ None
@@ -296,15 +284,6 @@ word-ends w r s at byte x k after f fs u b i p n e g h o = absurd h
 word-ends w r s at byte x k (text_at v) f fs u b i p n e g h o = absurd h
 word-ends w r s at byte x k (character v ps) f fs u b i p n e g h o = absurd h
 word-ends w r s at byte x k (numeral v st) f fs u b i p n e g h o = absurd h
-
-pub word-stops : (byte : ℕ) (x : Word) (m : Mode) (f : Frame) (fs : List Frame) → (byte ≡ first_of x → ⊥) → IsMode (code.Word x) m → step_in m byte f fs ≡ None
-word-stops byte x (word v rest j) f fs n h = ap (λ (z : List ℕ). step_in (word v z j) byte f fs) h.0 ∙ word-refused byte x v j f fs n
-word-stops byte x first f fs n h = absurd h
-word-stops byte x next f fs n h = absurd h
-word-stops byte x after f fs n h = absurd h
-word-stops byte x (text_at v) f fs n h = absurd h
-word-stops byte x (character v ps) f fs n h = absurd h
-word-stops byte x (numeral v st) f fs n h = absurd h
 
 -- ---- the arms
 

@@ -2,11 +2,12 @@
 use Rattle.std.proofs.Common.{◌≡◌, ℕ, ◌+◌, ◌<◌, ◌≤◌, Bool, true, false, cond, nat_le, List, [], ◌∷◌, ◌++◌, append-nil, refl, sym, ◌∙◌, ap, ◌⊎◌, inl, inr, arith, length, take, drop, Option, Some, Result, Ok, Err}
 use Rattle.std.proofs.lemmas.Bool.Decides.{nat_tests}
 use Rattle.std.proofs.Math.Seq.{take-length}
-use Rattle.std.specs.Prelude.{slice_index, MatchResult}
+use Rattle.std.specs.Prelude.{slice_index}
+use Rattle.lists.specs.Starved.{OrStarved}
 use Rattle.json_text.specs.Nodes.{Document}
 use Rattle.json_text.specs.Automaton.{State, start, step, run, value_of}
 use Rattle.json_text.specs.Reading.{Answers, EndsAs}
-use Rattle.json_text.specs.Texts.{end_at, go_on, read_from, read_text}
+use Rattle.json_text.specs.Texts.{end_at, go_on, read_from, read_text, value_read}
 use Rattle.json_text.specs.declared.fault.JsonFault.{JsonFault}
 use Rattle.json_text.specs.declared.fault.JsonFault.TheVariants as fault
 use Rattle.json_text.specs.declared.reader.Reader.{Reader}
@@ -51,19 +52,19 @@ read-here w r at h rest parts size =
 
 -- what a call that reads a text answers
 abbrev pub Decides : List ℕ → Result Document JsonFault → Type 0
-Decides w result = MatchResult result (λ d. read_text w ≡ Ok d.value) (λ e. (e ≡ fault.Memory) ⊎ (read_text w ≡ Err e))
+Decides w result = OrStarved fault.Memory (read_text w) (value_read result)
 
-pub step-decides : (w : List ℕ) (r s : Reader) (at byte : ℕ) (e : JsonFault) (h : ReadsTo w r at) → at < length w → byte ≡ slice_index w at → Answers w at (step h.here byte) (Err e) s → (e ≡ fault.Memory) ⊎ (read_text w ≡ Err e)
+pub step-decides : (w : List ℕ) (r s : Reader) (at byte : ℕ) (e : JsonFault) (h : ReadsTo w r at) → at < length w → byte ≡ slice_index w at → Answers w at (step h.here byte) (Err e) s → (read_text w ≡ Err e) ⊎ (e ≡ fault.Memory)
 step-decides w r s at byte (fault.NotJson p) h l e a =
-    inr (read-here w r at h (byte ∷ drop (at + 1) w) (split-at w at byte l e) (taken w at l) ∙ read-one at byte (drop (at + 1) w) h.here
+    inl (read-here w r at h (byte ∷ drop (at + 1) w) (split-at w at byte l e) (taken w at l) ∙ read-one at byte (drop (at + 1) w) h.here
     ∙ ap (λ (o : Option State). go_on at o (λ u. read_from (at + 1) (drop (at + 1) w) u)) a.1
     ∙ ap (λ (n : ℕ). Err (fault.NotJson n)) (sym a.0))
 step-decides w r s at byte (fault.TooDeep p) h l e a =
-    inr (read-here w r at h (byte ∷ drop (at + 1) w) (split-at w at byte l e) (taken w at l) ∙ read-one at byte (drop (at + 1) w) h.here
+    inl (read-here w r at h (byte ∷ drop (at + 1) w) (split-at w at byte l e) (taken w at l) ∙ read-one at byte (drop (at + 1) w) h.here
     ∙ ap (λ (o : Option State). go_on at o (λ u. read_from (at + 1) (drop (at + 1) w) u)) a.1.1
     ∙ ap (λ (c : Bool). cond c (read_from (at + 1) (drop (at + 1) w) a.1.0) (Err (fault.TooDeep at))) (is-many (length a.1.0.below) 64 a.1.2)
     ∙ ap (λ (n : ℕ). Err (fault.TooDeep n)) (sym a.0))
-step-decides w r s at byte fault.Memory h l e a = inl refl
+step-decides w r s at byte fault.Memory h l e a = inr refl
 
 -- the end of the text
 text-end : (w : List ℕ) (r : Reader) (at : ℕ) (h : ReadsTo w r at) → at ≡ length w → read_text w ≡ end_at (length w) (value_of h.here)
@@ -75,5 +76,5 @@ text-end w r at h e =
 pub end-decides : (w : List ℕ) (r : Reader) (at : ℕ) (h : ReadsTo w r at) → at ≡ length w → (result : Result Document JsonFault)
     → EndsAs (length r.bytes.now) (value_of h.here) result → Decides w result
 end-decides w r at h e (Ok t) v = text-end w r at h e ∙ ap (end_at (length w)) v
-end-decides w r at h e (Err x) (inl m) = inl m
-end-decides w r at h e (Err x) (inr m) = inr (text-end w r at h e ∙ ap (end_at (length w)) m.1 ∙ ap Err (ap (λ (y : List ℕ). fault.NotJson (length y)) (sym h.shows.source) ∙ sym m.0))
+end-decides w r at h e (Err x) (inl m) = inr m
+end-decides w r at h e (Err x) (inr m) = inl (text-end w r at h e ∙ ap (end_at (length w)) m.1 ∙ ap Err (ap (λ (y : List ℕ). fault.NotJson (length y)) (sym h.shows.source) ∙ sym m.0))

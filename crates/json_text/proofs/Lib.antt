@@ -22,3 +22,5 @@ pub mod Siblings
 pub mod OneText
 pub mod Seeking
 pub mod OneGrammar
+pub mod Delimited
+pub mod EqualTexts

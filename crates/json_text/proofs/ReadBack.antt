@@ -12,7 +12,7 @@ use Rattle.json_text.proofs.Within.{below}
 use Rattle.json_text.proofs.Writing.{escaped-append}
 use Rattle.json_text.specs.Lexical.{Pattern, in_class, matches, Among, characters, IsCharacter, AreCharacters, none, more, IsString}
 use Rattle.json_text.specs.Grammar.{text, IsJson}
-use Rattle.json_text.specs.Text.{text_from, backslash, unit, code_unit, is_high_surrogate, character_bytes, short_meaning, hex_digit, inside, unescaped, escaped, escaped_byte, quoted}
+use Rattle.json_text.specs.Text.{text_from, code_unit, is_high_surrogate, character_bytes, hex_digit, inside, unescaped, escaped, escaped_byte, quoted}
 use Rattle.json_text.specs.Text as place
 
 less : (a b : ℕ) → a < b → nat_lt a b ≡ true
@@ -180,10 +180,10 @@ plain-text : (c : ℕ) (r : List ℕ) → (c == 0x5c) ≡ false → text_from pl
 unfolding text_from
 plain-text c r h = rw h refl
 
-abbrev escape_of : Bool → Bool → Bool → ℕ → List ℕ
+abbrev pub escape_of : Bool → Bool → Bool → ℕ → List ℕ
 escape_of q b s c = cond (q || b) (0x5c ∷ c ∷ []) (cond s (0x5c ∷ 0x75 ∷ 0x30 ∷ 0x30 ∷ hex_digit (c / 16) ∷ hex_digit (c % 16) ∷ []) (c ∷ []))
 
-escape-text : (c : ℕ) (r : List ℕ) (q b s : Bool) → (c == 0x22) ≡ q → (c == 0x5c) ≡ b → nat_lt c 0x20 ≡ s → text_from place.none (escape_of q b s c ++ r) ≡ c ∷ text_from place.none r
+pub escape-text : (c : ℕ) (r : List ℕ) (q b s : Bool) → (c == 0x22) ≡ q → (c == 0x5c) ≡ b → nat_lt c 0x20 ≡ s → text_from place.none (escape_of q b s c ++ r) ≡ c ∷ text_from place.none r
 escape-text c r true b s e f g = let n : c ≡ 0x22 = eqb-true c 0x22 e in subst (λ (x : ℕ). text_from place.none (0x5c ∷ x ∷ r) ≡ x ∷ text_from place.none r) (sym n) (quote-text r)
 escape-text c r false true s e f g = let n : c ≡ 0x5c = eqb-true c 0x5c f in subst (λ (x : ℕ). text_from place.none (0x5c ∷ x ∷ r) ≡ x ∷ text_from place.none r) (sym n) (backslash-text r)
 escape-text c r false false true e f g = control-text c r (is-less c 0x20 g)
@@ -201,10 +201,6 @@ high-byte b h = rw (not-eq b 0x22 (λ e. omega arith), not-eq b 0x5c (λ e. omeg
 high-escaped : (w : List ℕ) → AllHigh w → escaped w ≡ w
 high-escaped [] h = refl
 high-escaped (b ∷ bs) h = ap (λ (x : List ℕ). x ++ escaped bs) (high-byte b h.0) ∙ ap (λ (x : List ℕ). b ∷ x) (high-escaped bs h.1)
-
-high-text : (w r : List ℕ) → AllHigh w → text_from place.none (w ++ r) ≡ w ++ text_from place.none r
-high-text [] r h = refl
-high-text (b ∷ bs) r h = plain-text b (bs ++ r) (not-eq b 0x5c (λ e. (let k : 0x80 ≤ b = h.0 in omega arith))) ∙ ap (λ (x : List ℕ). b ∷ x) (high-text bs r h.1)
 
 encode-high : (c : ℕ) → 0x80 ≤ c → AllHigh (encode c)
 encode-high c h =
@@ -228,18 +224,6 @@ one-character c s =
           subst IsCharacter (sym (high-escaped (encode c) (encode-high c m))) (is-character c m s))
     ]
 
-one-text : (c : ℕ) (r : List ℕ) → text_from place.none (escaped (encode c) ++ r) ≡ encode c ++ text_from place.none r
-one-text c r =
-    elim (decide (nat_lt c 0x80)) [
-      | inl e ↦ (let m : c < 0x80 = is-less c 0x80 e in
-          ap (λ (x : List ℕ). text_from place.none (escaped x ++ r)) (encode_ascii c m)
-          ∙ ap (λ (x : List ℕ). text_from place.none (x ++ r)) (append-nil (escaped_byte c))
-          ∙ escape-text c r (c == 0x22) (c == 0x5c) (nat_lt c 0x20) refl refl refl
-          ∙ ap (λ (x : List ℕ). x ++ text_from place.none r) (sym (encode_ascii c m)))
-      | inr e ↦ (let m : 0x80 ≤ c = is-at-least c 0x80 e in
-          ap (λ (x : List ℕ). text_from place.none (x ++ r)) (high-escaped (encode c) (encode-high c m)) ∙ high-text (encode c) r (encode-high c m))
-    ]
-
 all-characters : (cs w : List ℕ) → AreCharacters w → scalars cs ≡ true → AreCharacters (w ++ escaped (encodes cs))
 all-characters [] w h s = subst (λ (x : List ℕ). AreCharacters x) (sym (append-nil w)) h
 all-characters (c ∷ cs) w h s =
@@ -249,12 +233,6 @@ all-characters (c ∷ cs) w h s =
 text-empty : text_from place.none [] ≡ []
 unfolding text_from
 text-empty = refl
-
-all-text : (cs : List ℕ) → text_from place.none (escaped (encodes cs)) ≡ encodes cs
-all-text [] = text-empty
-all-text (c ∷ cs) =
-    ap (λ (x : List ℕ). text_from place.none x) (escaped-append (encode c) (encodes cs))
-    ∙ one-text c (escaped (encodes cs)) ∙ ap (λ (x : List ℕ). encode c ++ x) (all-text cs)
 
 inside-quoted : (t : List ℕ) → inside (quoted t) ≡ escaped t
 inside-quoted t =
@@ -275,6 +253,10 @@ quoted-json t h = record {
   shallow = omega arith;
 }
 
-pub quoted-text : (t : List ℕ) → IsUtf8 t → unescaped (quoted t) ≡ t
-quoted-text t h = ap (λ (x : List ℕ). text_from place.none x) (inside-quoted t)
-    ∙ ap (λ (x : List ℕ). text_from place.none (escaped x)) (sym h.1.1) ∙ all-text h.0 ∙ h.1.1
+escaped-text : (t : List ℕ) → text_from place.none (escaped t) ≡ t
+escaped-text [] = text-empty
+escaped-text (b ∷ bs) = escape-text b (escaped bs) (b == 0x22) (b == 0x5c) (nat_lt b 0x20) refl refl refl ∙ ap (λ (x : List ℕ). b ∷ x) (escaped-text bs)
+
+-- also of bytes that aren't UTF-8
+pub unquoted : (t : List ℕ) → unescaped (quoted t) ≡ t
+unquoted t = ap (λ (x : List ℕ). text_from place.none x) (inside-quoted t) ∙ escaped-text t

@@ -178,11 +178,12 @@ pub part-here : (root : Document) (ps : List Json) (child i : ℕ) → IsPartAt 
 part-here root ps child i h l = part-with root ps child i h.rest h.tail l h.nodes_left h.parts_left
 
 -- the entry of a tree at a node
-pub shown-at : (w : List ℕ) (es xs : List Entry) (d : Document) (n : ℕ) (x : Entry) → xs ≡ es → IsTree w es → document_of w es ≡ d → n < length (nodes d.value) → IsEntry w n (get_or xs n x) (value_at d n)
+pub shown-at : (w : List ℕ) (es xs : List Entry) (d : Document) (n : ℕ) (x : Entry) → xs ≡ es → IsTree w es → document_of w es ≡ d → n < length (nodes d.value) → IsEntry d.source n (get_or xs n x) (value_at d n)
 shown-at w es xs d n x s h v l =
     let k = subst (λ (y : Document). AreEntries w 0 es (nodes y.value)) v h.entries in
-    subst (λ (y : List Entry). IsEntry w n (get_or y n x) (value_at d n)) (sym s)
-    (subst (λ (y : ℕ). IsEntry w y (get_or es n x) (value_at d n)) (zero-add n) (entry-at w 0 n es (nodes d.value) x k l))
+    subst (λ (u : List ℕ). IsEntry u n (get_or xs n x) (value_at d n)) (ap (λ (y : Document). y.source) v)
+    (subst (λ (y : List Entry). IsEntry w n (get_or y n x) (value_at d n)) (sym s)
+    (subst (λ (y : ℕ). IsEntry w y (get_or es n x) (value_at d n)) (zero-add n) (entry-at w 0 n es (nodes d.value) x k l)))
 
 pub tree-length : (w : List ℕ) (es : List Entry) (d : Document) → IsTree w es → document_of w es ≡ d → length es ≡ length (nodes d.value)
 tree-length w es d h v = entries-length w 0 es (nodes d.value) (subst (λ (y : Document). AreEntries w 0 es (nodes y.value)) v h.entries)

@@ -15,3 +15,4 @@ pub mod Splitting
 pub mod Same
 pub mod Canonical
 pub mod Starts
+pub mod Equality

@@ -1,6 +1,7 @@
--- When two values are the same. Each value has one text in common with all that are the same and with no
--- other (as in RFC 8785): without spaces, members in the order of their names, of several of one name the
--- last alone, each string escaped in one way, and each number as the shortest decimal of its units.
+-- The text that a value has in common with its equals and, where both have one, with no other value. Its form
+-- is this project's own, and no JSON: without spaces, a comma behind each item and member, members in the order
+-- of their names' bytes, of several of one name the last alone, each string escaped in one way, and each number
+-- as the shortest decimal of its units.
 use Rattle.std.specs.Prelude.{ℕ, Bool, true, false, cond, List, [], ◌∷◌, ◌++◌, codes, Option, Some, None, Result, Ok, Err, bytes_eq, map, option_map, ℤ}
 use Rattle.std.specs.Option.{is_some}
 use Rattle.std.specs.Ordering.{nat_cmp}
@@ -53,7 +54,7 @@ abbrev pub field_text : Field → Option (List ℕ)
 field_text m = option_map (λ v. quoted m.0 ++ 0x3a ∷ v) m.1
 
 abbrev mutual
-  -- the text that a value has in common with all that are the same, where each number that counts is in range
+  -- the text that a value has in common with its equals, where each number that counts is in range
   pub canonical : Json → Option (List ℕ)
   canonical null = Some (codes "null")
   canonical (boolean true) = Some (codes "true")

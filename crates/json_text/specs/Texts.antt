@@ -3,6 +3,7 @@
 use Rattle.std.specs.Prelude.{ℕ, ◌+◌, cond, nat_le, List, [], ◌∷◌, length, Option, Some, None, Result, Ok, Err}
 use Rattle.json_text.specs.Grammar.{Json}
 use Rattle.json_text.specs.Automaton.{State, step, start, value_of}
+use Rattle.json_text.specs.Nodes.{Document}
 use Rattle.json_text.specs.declared.fault.JsonFault.{JsonFault}
 use Rattle.json_text.specs.declared.fault.JsonFault.TheVariants.{NotJson, TooDeep}
 
@@ -22,3 +23,8 @@ read_from at (b ∷ bs) s = go_on at (step s b) (λ t. read_from (at + 1) bs t)
 
 abbrev pub read_text : List ℕ → Result Json JsonFault
 read_text w = read_from 0 w start
+
+-- the value of the tree that was read, or the fault
+abbrev pub value_read : Result Document JsonFault → Result Json JsonFault
+value_read (Ok tree) = Ok tree.value
+value_read (Err fault) = Err fault

@@ -19,10 +19,11 @@ impl<'a> Tree<'a> {
     ghost use Rattle.json_text.specs.Same.{by_name, canonical, comparison, field_text};
     ghost use Rattle.json_text.specs.Text.{quoted, text_of};
 
-    /// Whether two values are the same: numbers by value as multiples of 10^-18, strings by their
-    /// unescaped texts, lists item by item, and objects by their members, in whatever order they stand.
-    /// Of several members of one name the last alone is looked at. Numbers are looked at whatever the
-    /// kinds are. The time is that of sorting the members by name.
+    /// Whether two values are equal: numbers by value as multiples of 10^-18, strings by their unescaped
+    /// texts, lists item by item, and objects by their members, in whatever order they stand. Of several
+    /// members of one name the last alone is looked at. Numbers are looked at whatever the kinds are. That
+    /// `Equal` means this, part by part, is the law `equal_values_have_equal_texts`. The time is that of
+    /// sorting the members by name.
     pub fn compare(
         &self,
         node: Node,
@@ -39,8 +40,8 @@ impl<'a> Tree<'a> {
         Ok(compared(left, right))
     }
 
-    /// The text that a value has in common with all that are the same and with no other, or None where
-    /// a number that is looked at is no multiple of 10^-18 or isn't below 10^20.
+    /// A text that a value has in common with its equals and with no other value, in a form of this
+    /// project's own. None where a number that is looked at is no multiple of 10^-18 or isn't below 10^20.
     pub fn canonical(&self, node: Node) -> Result<Option<Bytes>, Memory>
         requires { IsNodeOf self.now node }
         ensures { IfOk result (λ text. text ≡ canonical (value_at self.now node)) }

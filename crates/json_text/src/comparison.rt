@@ -1,7 +1,7 @@
 /// What is told of two values.
 #[derive(Clone, Copy, Debug, PartialEq, Eq)]
 pub enum Comparison {
-    /// They are the same.
+    /// They are equal, part by part.
     Equal,
     /// They differ, and each number that was looked at is in range.
     Unequal,

@@ -1,7 +1,10 @@
 //! Laws of the grammar, for the layers above.
-ghost use Rattle.std.specs.Prelude.{◌≡◌, List, ℕ, Err};
+ghost use Rattle.std.specs.Prelude.{◌≡◌, ◌↔◌, List, ℕ, Some, Err};
+ghost use Rattle.json_text.specs.Equality.{AreEqual};
 ghost use Rattle.json_text.specs.Grammar.{Json, IsText};
 ghost use Rattle.json_text.specs.Lexical.{IsNumber};
+ghost use Rattle.json_text.specs.Same.{canonical, comparison};
+ghost use Rattle.json_text.specs.declared.comparison.Comparison.TheVariants.{Equal};
 ghost use Rattle.text_num.specs.Units.{units_of};
 ghost use Rattle.text_num.specs.declared.fault.NumFault.TheVariants.{NotANumber};
 
@@ -16,3 +19,11 @@ pub fn numbers_are_numbers()
 {
     text_num::units_of_a_number();
 }
+
+/// Two values that have canonical texts have the same one exactly where they are equal part by part, and
+/// `Tree::compare` answers `Equal` exactly where they are.
+pub fn equal_values_have_equal_texts()
+    ensures texts { (a b : Json) (v w : List ℕ) → canonical a ≡ Some v → canonical b ≡ Some w
+        → (v ≡ w) ↔ AreEqual a b }
+    ensures compared { (a b : Json) → (comparison a b ≡ Equal) ↔ AreEqual a b }
+{}

@@ -26,7 +26,7 @@ pub use comparison::Comparison;
 pub use fault::JsonFault;
 pub use items::ItemNodes;
 pub use kind::Kind;
-pub use laws::{numbers_are_numbers, one_value};
+pub use laws::{equal_values_have_equal_texts, numbers_are_numbers, one_value};
 pub use members::MemberNodes;
 pub use text::put_text;
 pub use tree::{Node, Tree};

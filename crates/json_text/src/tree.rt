@@ -66,10 +66,12 @@ impl Node {
 
 impl<'a> Tree<'a> {
     ghost use Rattle.std.specs.Prelude.{◌≡◌, ◌+◌, ◌⊎◌, ◌<◌, IfOk, IfErr, MatchOption, MatchResult, Ok, Err, Some, None, length, map, slice_get};
+    ghost use Rattle.json_text.specs.Entries.{IsEntry};
     ghost use Rattle.json_text.specs.Grammar.{IsJson, spelling};
     ghost use Rattle.json_text.specs.Text.{has_text, last_named, member_of, text_of};
     ghost use Rattle.json_text.specs.Same.{units_at};
-    ghost use Rattle.json_text.specs.Texts.{read_text};
+    ghost use Rattle.json_text.specs.Texts.{read_text, value_read};
+    ghost use Rattle.lists.specs.Starved.{OrStarved};
     ghost use Rattle.json_text.specs.declared.fault.JsonFault.TheVariants as fault;
     ghost use Rattle.json_text.specs.declared.kind.Kind.TheVariants as kind;
     ghost use Rattle.json_text.specs.Places.{IsFaultOf};
@@ -82,8 +84,7 @@ impl<'a> Tree<'a> {
         ensures source { IfOk result (λ tree. tree.source ≡ bytes.now) }
         ensures grammar { MatchResult result (λ tree. IsJson bytes.now tree.value)
             (λ e. IsFaultOf e bytes.now) }
-        ensures decided { MatchResult result (λ tree. read_text bytes.now ≡ Ok tree.value)
-            (λ e. (e ≡ fault.Memory) ⊎ (read_text bytes.now ≡ Err e)) }
+        ensures decided { OrStarved fault.Memory (read_text bytes.now) (value_read result) }
     {
         let mut reader = Reader::new(alloc, bytes);
         for (at, byte) in bytes.iter().enumerate() {
@@ -92,8 +93,9 @@ impl<'a> Tree<'a> {
         reader.finish()
     }
 
-    /// The value of the whole text.
+    /// The value of the whole text, the first of the nodes.
     pub fn root(&self) -> Node
+        ensures first { result ≡ 0 }
         ensures node { IsNodeOf self.now result }
         ensures value { value_at self.now result ≡ self.now.value }
     {
@@ -262,8 +264,15 @@ impl<'a> Tree<'a> {
         requires { IsNodeOf self.now index }
         ensures { result.now ≡ spelling (value_at self.now index) }
     {
-        let entry = self.nodes.as_slice()[index];
+        let entry = self.entry_at(index);
         part_of(self.bytes, entry.start as usize, entry.stop as usize)
+    }
+
+    fn entry_at(&self, index: usize) -> Entry
+        requires { IsNodeOf self.now index }
+        ensures { IsEntry self.now.source index result (value_at self.now index) }
+    {
+        self.nodes.as_slice()[index]
     }
 
     pub(crate) fn number(&self, node: Node) -> usize
@@ -292,7 +301,7 @@ impl<'a> Tree<'a> {
         ensures count { result.count ≡ length (parts_of (value_at self.now index)) }
         ensures next { result.next ≡ behind self.now index }
     {
-        let entry = self.nodes.as_slice()[index];
+        let entry = self.entry_at(index);
         Spot {
             kind: entry.kind,
             count: entry.count as usize,

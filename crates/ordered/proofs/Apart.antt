@@ -1,15 +1,14 @@
 -- Lists of entries no two of which share a key.
-use Rattle.std.proofs.Common.{◌≡◌, ℕ, ◌<◌, ◌≤◌, ◌==◌, Bool, true, false, cond, not, ◌&&◌, List, [], ◌∷◌, Some, None, refl, sym, ap, ◌∙◌, arith, length, subst, eqb-true}
+use Rattle.std.proofs.Common.{◌≡◌, ℕ, ◌<◌, ◌==◌, Bool, true, false, cond, not, List, [], ◌∷◌, Some, None, refl, sym, ap, ◌∙◌, arith, length, subst, eqb-true}
 use Rattle.std.specs.List.{find, filter}
 use Rattle.std.specs.BTreeMap.{is_at}
 use Rattle.std.specs.Ordering.{nat_cmp}
-use Rattle.std.specs.Str.{bytes_eq}
 use Rattle.std.proofs.lemmas.Bool.{cond-true, cond-false}
 use Rattle.std.proofs.lemmas.Bool.Decides.{nat_tests}
+use Rattle.std.proofs.lemmas.List.Filters.{length-filter_both}
 use Rattle.std.proofs.lemmas.Option.{same_Some}
 use Rattle.lists.specs.Entries.{pair_cmp, key_of, insert_in, by_key, AreApartBy}
 use Rattle.lists.proofs.Keyed.{cond_none, filter_none, find_without, find_filter, Inserts, find-insert}
-use Rattle.lists.proofs.Texts.{bytes_self, bytes_same, bytes_flip}
 
 -- keys that a test takes for the same are the same
 pub record Tells {K : Type 0} (eq : K → K → Bool) : Type 0 where
@@ -19,9 +18,6 @@ pub record Tells {K : Type 0} (eq : K → K → Bool) : Type 0 where
 
 pub number_tells : Tells (λ (a b : ℕ). a == b)
 number_tells = record { self = λ n. grind (arith, nat_tests); same = eqb-true; flip = λ a b. grind (arith, nat_tests) }
-
-pub bytes_tells : Tells bytes_eq
-bytes_tells = record { self = bytes_self; same = bytes_same; flip = bytes_flip }
 
 pub at_number : (a b : ℕ) → is_at (nat_cmp a) b ≡ (a == b)
 at_number a b = grind (arith, nat_tests)
@@ -44,28 +40,14 @@ module _ {X : Type 0} where
 
   none_filter : (t p : X → Bool) (es : List X) → find t es ≡ None → find t (filter p es) ≡ None
   none_filter t p [] h = refl
-  none_filter t p (e ∷ es) h = let parts = cond_none (t e) e (find t es) h in by_test (p e) parts.0 (none_filter t p es parts.1)
-    where
-      by_test : (b : Bool) → t e ≡ false → find t (filter p es) ≡ None → find t (cond b (e ∷ filter p es) (filter p es)) ≡ None
-      by_test true n more = rw n more
-      by_test false n more = more
+  none_filter t p (e ∷ es) h = let parts = cond_none (t e) e (find t es) h in grind (arith, parts.0, none_filter t p es parts.1)
 
-  filter_at_most : (p : X → Bool) (es : List X) → length (filter p es) ≤ length es
-  filter_at_most p [] = omega arith
-  filter_at_most p (e ∷ es) = by_test (p e) (filter_at_most p es)
-    where
-      by_test : (b : Bool) → length (filter p es) ≤ length es → length (cond b (e ∷ filter p es) (filter p es)) ≤ length (e ∷ es)
-      by_test true more = omega (arith, more)
-      by_test false more = omega (arith, more)
+  some_passes : (t : X → Bool) (es : List X) (r : X) → find t es ≡ Some r → 0 < length (filter t es)
+  some_passes t [] r h = cc
+  some_passes t (e ∷ es) r h = grind (arith, some_passes t es r)
 
   pub fewer_without : (t : X → Bool) (es : List X) (r : X) → find t es ≡ Some r → length (filter (λ e. not (t e)) es) < length es
-  fewer_without t [] r h = cc
-  fewer_without t (e ∷ es) r h = by_test (t e) (fewer_without t es r) h
-    where
-      by_test : (b : Bool) → (find t es ≡ Some r → length (filter (λ x. not (t x)) es) < length es)
-          → cond b (Some e) (find t es) ≡ Some r → length (cond (not b) (e ∷ filter (λ x. not (t x)) es) (filter (λ x. not (t x)) es)) < length (e ∷ es)
-      by_test true more h = let most = filter_at_most (λ x. not (t x)) es in omega (arith, most)
-      by_test false more h = let less = more h in omega (arith, less)
+  fewer_without t es r h = omega (arith, some_passes t es r h, length-filter_both t (λ e. not (t e)) (λ e. refl) es)
 
   -- a test that at most one entry passes
   abbrev pub IsOnce : (X → Bool) → List X → Type 0

@@ -32,9 +32,6 @@ take-more n a b = elim (cases_lt n (length a)) as (λ _. (m : ℕ) × (take m (a
   | inr h ↦ (length a, take-append_seam a b ∙ sym (take_all n a h))
 ]
 
-pub prefix-nothing : (sink : Outgoing) (text : List ℕ) → WritesPrefix text sink sink
-prefix-nothing sink text = (0, sym (write-nothing sink))
-
 pub prefix-all : (text : List ℕ) (old new : Outgoing) → new ≡ after_write text old → WritesPrefix text old new
 prefix-all text old new is = (length text, is ∙ ap (λ t. after_write t old) (sym (take_all (length text) text (omega arith))))
 
@@ -43,11 +40,6 @@ prefix-more a b old new h = let more = take-more h.0 a b in (more.0, h.1 ∙ ap 
 
 pub fails-more : (a b : List ℕ) (old new : Outgoing) → FailsWriting a old new → FailsWriting (a ++ b) old new
 fails-more a b old new h = let more = take-more h.0 a b in (more.0, h.1 ∙ ap (λ t. after_failed_write t old) (sym more.1))
-
--- after a text all of which was written
-pub write-prefix : (a b : List ℕ) (old mid new : Outgoing) → mid ≡ after_write a old → WritesPrefix b mid new → WritesPrefix (a ++ b) old new
-write-prefix a b old mid new is h =
-    (length a + h.0, h.1 ∙ ap (after_write (take h.0 b)) is ∙ write-write old a (take h.0 b) ∙ ap (λ t. after_write t old) (sym (take-append-add a b h.0)))
 
 pub write-fails : (a b : List ℕ) (old mid new : Outgoing) → mid ≡ after_write a old → FailsWriting b mid new → FailsWriting (a ++ b) old new
 write-fails a b old mid new is h =

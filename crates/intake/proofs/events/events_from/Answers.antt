@@ -13,7 +13,7 @@ returns-in_err-event_of c =
     let events = c.loop-node.events in
     let p = err_from_is_err_and c.from_residual.result c.from_residual.ensures.1 in
     let here = subst (λ (left : List ℕ). IsReading root js left events) c.in-Some.ensures.steps c.loop-node.invariant.2 in
-    let failed = subst (λ (n : ℕ). (c.in_err-event_of.field-0.0 ≡ Memory) ⊎ (event_of n (value_at root c.in-Some.node) ≡ Err c.in_err-event_of.field-0.0)) c.len-index.ensures c.in_err-event_of.ensures in
+    let failed = subst (λ (n : ℕ). (event_of n (value_at root c.in-Some.node) ≡ Err c.in_err-event_of.field-0.0) ⊎ (c.in_err-event_of.field-0.0 ≡ Memory)) c.len-index.ensures c.in_err-event_of.ensures in
     rw (p.1, p.2) (reading-fault root js c.in-Some.node c.next.new.self events c.in_err-event_of.field-0.0 here failed)
 
 pub loop-node-preserved : goal.loop-node-preserved
