@@ -1,5 +1,14 @@
+pub mod Completions
+pub mod Lengths
+pub mod Limits
+pub mod Names
 pub mod Plain
+pub mod Readings
 pub mod Rows
+pub mod Shapes
 pub mod Sound
+pub mod Stacks
+pub mod Stops
 pub mod TextLaws
+pub mod Walks
 pub mod Whole

@@ -1,5 +1,5 @@
 -- The tokens of a text: `in` is always a word.
-use Rattle.std.proofs.Common.{◌≡◌, ℕ, suc, zero, Bool, true, false, cond, List, [], ◌∷◌, refl, map, length, Result, Ok, Err, drop, take, slice_index, ◌++◌, ◌-◌, ◌==◌, ◌||◌, ℤ}
+use Rattle.std.proofs.Common.{◌≡◌, ℕ, suc, zero, Bool, true, false, cond, List, [], ◌∷◌, refl, map, length, Option, Some, None, Result, Ok, Err, drop, take, slice_index, ◌++◌, ◌-◌, ◌==◌, ◌||◌, ℤ}
 use Rattle.text_num.specs.declared.fault.NumFault.{NumFault}
 use Rattle.expr.specs.declared.term.Operator.TheVariants as op
 use Rattle.std.specs.Char.{is_ascii_digit}

@@ -1,4 +1,4 @@
-use Rattle.std.proofs.Common.{◌≡◌, true, refl, [], ◌∷◌, ◌++◌, Some, None, codes}
+use Rattle.std.proofs.Common.{◌≡◌, true, refl, List, [], ◌∷◌, ◌++◌, Option, Some, None, codes, ℕ}
 use Rattle.std.specs.Prelude.{pos, replicate}
 use Rattle.text_num.specs.Digits.{fraction_of}
 use Rattle.text_num.specs.JsonNumber.{number_of, exponent_of}
@@ -8,7 +8,7 @@ use Rattle.expr.specs.declared.term.Sign.TheVariants as sign
 use Rattle.expr.specs.declared.term.Operator.TheVariants as op
 use Rattle.expr.specs.declared.term.Function.TheVariants as function
 use Rattle.expr.specs.declared.term.Method.TheVariants as method_name
-use Rattle.expr.specs.Tree.{null, boolean, number, text, source, group, list, member, index, has, call, method, signed, binary, choice, none, more}
+use Rattle.expr.specs.Tree.{Tree, null, boolean, number, text, source, group, list, member, index, has, call, method, signed, binary, choice, Trees, none, more}
 use Rattle.expr.specs.Tokens.{placed_tokens, tokens_of}
 use Rattle.expr.specs.Reading.{atom_of, callee_of, method_of, is_in, read_tokens, tree_of_text}
 

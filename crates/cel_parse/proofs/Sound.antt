@@ -1,16 +1,21 @@
 -- What is read is spelled: the frames and the tree show the tokens so far.
-use Rattle.std.proofs.Common.{◌≡◌, ℕ, suc, ◌+◌, ◌≤◌, ◌<◌, Bool, true, false, cond, nat_le, codes, List, [], ◌∷◌, ◌++◌, refl, sym, ◌∙◌, ap, subst, append_assoc, append-nil, arith, Option, Some, None}
+use Rattle.std.proofs.Common.{◌≡◌, ℕ, suc, zero, ◌+◌, ◌≤◌, ◌<◌, Bool, true, false, cond, nat_le, codes, bytes_eq, List, [], ◌∷◌, ◌++◌, refl, sym, ◌∙◌, ap, subst, append_assoc, append-nil, arith, Option, Some, None}
 use Rattle.std.specs.Prelude.{⊤}
 use Rattle.lists.proofs.Texts.{bytes_same}
+use Rattle.expr.specs.declared.term.Source.TheVariants.{Event, Async}
+use Rattle.expr.specs.declared.term.Sign.{Sign}
 use Rattle.expr.specs.declared.term.Sign.TheVariants as sign
 use Rattle.expr.specs.declared.term.Operator.{Operator}
 use Rattle.expr.specs.declared.term.Operator.TheVariants as op
+use Rattle.expr.specs.declared.term.Function.{Function}
+use Rattle.expr.specs.declared.term.Function.TheVariants as function
 use Rattle.expr.specs.declared.term.Method.{Method}
+use Rattle.expr.specs.declared.term.Method.TheVariants as m
 use Rattle.expr.specs.Tokens.{Token, word, quoted, operator, exclaim, round_open, round_close, square_open, square_close, dot, comma, question, colon, tokens_of}
 use Rattle.expr.specs.Tokens as token
-use Rattle.expr.specs.Tree.{Tree, null, boolean, number, text, source, group, list, member, index, has, call, method, signed, binary, choice, none, more}
-use Rattle.expr.specs.Reading.{atom_of, callee_of, method_of, is_in, rank_of, Frame, left, prefix, test, either, round, square, place, asked, argument, behind, Held, held, State, want, enter, have, behind_dot, reduce, opens, Step, goes, refused, too_deep, over, is_asked, atom_or_callee, close_empty, minus_sign, step_want, step_enter, asked_of, close_round, close_square, next_item, other_branch, operand_left, tested, operate, begin_method, method_or_none, step_have, step_dot, step, run, only_in, end_in, finish, read_tokens}
-use Rattle.cel_parse.specs.Grammar.{function_name, method_name, sign_token, operator_token, comma_behind, spell, spell_all, rank, Fits, FitAll, Lies, LieAll, IsTree}
+use Rattle.expr.specs.Tree.{Tree, null, boolean, number, text, source, group, list, member, index, has, call, method, signed, binary, choice, Trees, none, more}
+use Rattle.expr.specs.Reading.{atom_of, callee_of, method_of, is_in, rank_of, Frame, left, prefix, test, either, round, square, place, asked, argument, behind, Held, held, State, want, enter, have, behind_dot, reduce, opens, Step, goes, refused, too_deep, over, is_asked, unless_asked, atom_or_callee, close_empty, minus_sign, step_want, step_enter, asked_of, close_round, close_square, next_item, other_branch, operand_left, tested, operate, begin_method, method_or_none, step_have, step_dot, step, run, only_in, only, end_in, finish, read_tokens}
+use Rattle.cel_parse.specs.Grammar.{source_name, function_name, method_name, sign_token, operator_token, comma_behind, spell, spell_all, rank, Fits, FitAll, Lies, LieAll, IsTree}
 use Rattle.cel_parse.proofs.Whole.{Room, room-up, rank-below, rank-above, free}
 
 abbrev pub before : Frame → List Token
@@ -131,7 +136,7 @@ reduce-puts most r (asked ∷ fs) t w e f s d m l = record { spelled = e; fits =
 reduce-puts most r (argument x ∷ fs) t w e f s d m l = record { spelled = e; fits = f; stands = s; lies = d; room = λ k. tt; high = l }
 reduce-puts most r (behind x a ∷ fs) t w e f s d m l = record { spelled = e; fits = f; stands = s; lies = d; room = λ k. tt; high = l }
 
-free-cond : (b : Bool) (h k : Held) → is_asked h.frames ≡ false → is_asked k.frames ≡ false → is_asked (cond b h k).frames ≡ false
+pub free-cond : (b : Bool) (h k : Held) → is_asked h.frames ≡ false → is_asked k.frames ≡ false → is_asked (cond b h k).frames ≡ false
 free-cond true h k x y = x
 free-cond false h k x y = y
 
@@ -149,15 +154,15 @@ reduced-free most r (asked ∷ fs) t s k = absurd (cc)
 reduced-free most r (argument x ∷ fs) t s k = refl
 reduced-free most r (behind x a ∷ fs) t s k = refl
 
-abbrev GoodHeld : ℕ → Held → Type 0
+abbrev pub GoodHeld : ℕ → Held → Type 0
 GoodHeld most h = Stands most h.frames × Fits h.tree × (7 ≤ rank h.tree) × Lies most (opens h.frames) h.tree
 
-abbrev Enters : ℕ → List Frame → Frame → Type 0
+abbrev pub Enters : ℕ → List Frame → Frame → Type 0
 Enters most fs asked = Stands most fs
 Enters most fs (argument f) = Stands most fs
 Enters most fs _ = ⊥
 
-abbrev Good : ℕ → State → Type 0
+abbrev pub Good : ℕ → State → Type 0
 Good most (want fs) = Stands most fs
 Good most (enter fs f) = Enters most fs f
 Good most (have h) = GoodHeld most h
@@ -166,7 +171,7 @@ Good most (behind_dot h) = GoodHeld most h
 good-put : (most r : ℕ) (h : Held) → r ≤ 7 → GoodHeld most h → Put most r (shown (have h)) (reduce r h.frames h.tree)
 good-put most r h l g = reduce-puts most r h.frames h.tree (shown (have h)) refl g.1 g.0 g.3 (room-up h.frames 7 (rank h.tree) (room-seven h.frames) g.2) (let k = g.2 in omega (arith, l, k))
 
-abbrev Keeps : ℕ → List Token → Step → Type 0
+abbrev pub Keeps : ℕ → List Token → Step → Type 0
 Keeps most w (goes s) = Good most s × (shown s ≡ w)
 Keeps most w refused = ⊤
 Keeps most w too_deep = ⊤
@@ -475,7 +480,7 @@ abbrev pub AllPlain : List Token → Type 0
 AllPlain [] = ⊤
 AllPlain (x ∷ xs) = (is_plain x ≡ true) × AllPlain xs
 
-run-keeps : (most : ℕ) (ws : List Token) (o : Step) (w : List Token) → AllPlain ws → Keeps most w o → Keeps most (w ++ ws) (run most o ws)
+pub run-keeps : (most : ℕ) (ws : List Token) (o : Step) (w : List Token) → AllPlain ws → Keeps most w o → Keeps most (w ++ ws) (run most o ws)
 run-keeps most [] o w y k = subst (λ (v : List Token). Keeps most v o) (sym (append-nil w)) k
 run-keeps most (x ∷ xs) refused w y k = tt
 run-keeps most (x ∷ xs) too_deep w y k = tt

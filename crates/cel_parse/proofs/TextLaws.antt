@@ -3,12 +3,12 @@ use Rattle.std.proofs.Common.{◌≡◌, ℕ, ◌≤◌, List, length, true, fal
 use Rattle.expr.specs.Tree.{Tree}
 use Rattle.expr.specs.Tokens.{tokens_of}
 use Rattle.expr.specs.Reading.{read_tokens, tree_of_text, deepest, longest}
-use Rattle.cel_parse.specs.Grammar.{IsExpression}
+use Rattle.cel_parse.specs.Grammar.{IsTree, IsExpression}
 use Rattle.cel_parse.proofs.Plain.{all-plain}
 use Rattle.cel_parse.proofs.Sound.{read-is-spelled}
 use Rattle.cel_parse.proofs.Whole.{spelled-is-read, le-true}
 
-bool_cases : (b : Bool) → (b ≡ true) ⊎ (b ≡ false)
+pub bool_cases : (b : Bool) → (b ≡ true) ⊎ (b ≡ false)
 bool_cases true = inl refl
 bool_cases false = inr refl
 

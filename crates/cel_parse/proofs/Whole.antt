@@ -1,5 +1,5 @@
 -- What is spelled is read: each tree's spelling leads to the frames and the tree that amount to it.
-use Rattle.std.proofs.Common.{◌≡◌, ℕ, suc, ◌+◌, ◌≤◌, ◌<◌, Bool, true, false, cond, nat_le, codes, List, [], ◌∷◌, ◌++◌, refl, sym, ◌∙◌, ap, subst, append_assoc, append-nil, arith, Some}
+use Rattle.std.proofs.Common.{◌≡◌, ℕ, suc, zero, ◌+◌, ◌≤◌, ◌<◌, Bool, true, false, cond, nat_le, codes, List, [], ◌∷◌, ◌++◌, refl, sym, ◌∙◌, ap, subst, append_assoc, append-nil, arith, Option, Some, None}
 use Rattle.std.specs.Prelude.{⊤}
 use Rattle.expr.specs.declared.term.Source.{Source}
 use Rattle.expr.specs.declared.term.Source.TheVariants.{Event, Async}
@@ -14,8 +14,8 @@ use Rattle.expr.specs.declared.term.Method.TheVariants as m
 use Rattle.expr.specs.Tokens.{Token, word, quoted, operator, exclaim, round_open, round_close, square_open, square_close, dot, comma, question, colon, tokens_of}
 use Rattle.expr.specs.Tokens as token
 use Rattle.expr.specs.Tree.{Tree, null, boolean, number, text, source, group, list, member, index, has, call, method, signed, binary, choice, Trees, none, more}
-use Rattle.expr.specs.Reading.{atom_of, callee_of, method_of, is_in, rank_of, Frame, left, prefix, test, either, round, square, place, asked, argument, behind, Held, held, want, enter, have, reduce, opens, Step, goes, too_deep, over, is_asked, unless_asked, close_round_in, close_square_in, next_item_in, other_branch_in, operand_left, tested, operate, begin_method, step_have, step, run, only, finish, read_tokens}
-use Rattle.cel_parse.specs.Grammar.{function_name, method_name, sign_token, operator_token, spell, spell_all, rank, Fits, FitAll, Lies, LieAll, IsTree}
+use Rattle.expr.specs.Reading.{atom_of, callee_of, method_of, is_in, rank_of, Frame, left, prefix, test, either, round, square, place, asked, argument, behind, Held, held, State, want, enter, have, behind_dot, reduce, opens, Step, goes, refused, too_deep, over, is_asked, unless_asked, close_round_in, close_square_in, next_item_in, other_branch_in, operand_left, tested, operate, begin_method, method_or_none, step_have, step, run, only, finish, read_tokens}
+use Rattle.cel_parse.specs.Grammar.{source_name, function_name, method_name, sign_token, operator_token, spell, spell_all, rank, Fits, FitAll, Lies, LieAll, IsTree}
 
 -- a tree of this rank may stand where the top frame stops
 abbrev pub Room : List Frame → ℕ → Type 0

@@ -1,1 +1,9 @@
+pub mod Faults
+pub mod Frames
 pub mod Grammar
+pub mod Places
+pub mod Rules
+pub mod Seats
+pub mod Strings
+pub mod Tokens
+pub mod Walked

@@ -1,7 +1,20 @@
-//! The grammar of expressions. Stands on `expr` and `text_num`, and promises that the tree that `expr` reads a text as is the one
-//! that the grammar spells, and that a text has at most one.
+//! Expressions from their texts. Stands on `lists`, `expr` and `text_num`, and promises the tree of each text that the
+//! grammar spells within its limits, and of each other text the fault and its place.
 #![tactic(auto)]
 
+mod cutter;
+mod fault;
+mod frame;
 mod laws;
+mod parser;
+mod quoted;
+mod rules;
+mod step;
+mod token;
 
-pub use laws::exact;
+pub use fault::ParseFault;
+pub use laws::{exact, parsed, places};
+pub use parser::parse;
+
+#[cfg(test)]
+mod tests;

@@ -1,3 +1,5 @@
+use Rattle.std.proofs.Common.{◌≡◌, ◌∙◌, sym, Some}
+use Rattle.expr.specs.Reading.{tree_of_text}
 use Rattle.cel_parse.proofs.TextLaws.{text-spelled, text-read, same-tree}
 use Rattle.cel_parse.proofs.laws.exact.Goals as goal
 

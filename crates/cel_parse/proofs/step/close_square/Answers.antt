@@ -1,0 +1,5 @@
+use Rattle.cel_parse.specs.Frames.{open_in}
+use Rattle.cel_parse.proofs.step.close_square.Goals as goal
+
+pub returns-in-Some : goal.returns-in-Some
+returns-in-Some c = rw c.in-Some.ensures.top (c.close_square_frame.ensures (open_in c.pop.new.self))
