@@ -6,3 +6,4 @@ pub mod StandsLemmas
 pub mod ListLemmas
 pub mod TextLemmas
 mod Rows
+mod JoinLemmas

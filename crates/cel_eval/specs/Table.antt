@@ -1,6 +1,7 @@
 -- What an expression is worth over an event and a fresh event: one value, or the first fault.
 use Rattle.std.specs.Prelude.{ℕ, ℤ, Bool, true, false, List, [], ◌∷◌, Option, Some, None, Result, Ok, Err}
 use Rattle.json_text.specs.Grammar.{Json}
+use Rattle.json_text.specs.Nodes.{Document}
 use Rattle.expr.specs.Tree as tree
 use Rattle.expr.specs.Tree.{Tree, Trees}
 use Rattle.expr.specs.Reading.{tree_of_text}
@@ -9,7 +10,7 @@ use Rattle.expr.specs.declared.term.Source.{Source}
 use Rattle.expr.specs.declared.term.Source.TheVariants as source
 use Rattle.expr.specs.declared.term.Operator.{Operator}
 use Rattle.expr.specs.declared.term.Operator.TheVariants as operator
-use Rattle.cel_eval.specs.Data.{Datum, null, boolean, number, text, list, object, written, Data, none, more, Outcome, seen_outcome, Events, in_units, as_number, of_json, of_found}
+use Rattle.cel_eval.specs.Data.{Datum, null, boolean, number, text, list, object, written, Data, none, more, Outcome, seen_outcome, Events, over_documents, in_units, as_number, of_json, of_found}
 use Rattle.cel_eval.specs.Operations.{member, index, has, signed, call, text_method, truth, join, operate}
 use Rattle.cel_eval.specs.declared.fault.EvalFault.{EvalFault}
 use Rattle.cel_eval.specs.declared.fault.EvalFault.TheVariants as fault
@@ -102,3 +103,7 @@ worth_of w events = worth_if (tree_of_text w) events
 -- the same as the caller sees it
 abbrev pub value_of : List ℕ → Events → Result Value EvalFault
 value_of w events = seen_outcome (worth_of w events)
+
+-- over the texts of two events
+abbrev pub evaluated : List ℕ → Document → Option Document → Result Value EvalFault
+evaluated w event fresh = value_of w (over_documents event fresh)

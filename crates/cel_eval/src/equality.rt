@@ -250,14 +250,10 @@ pub(crate) fn is_among(
     Ok(false)
 }
 
-#[tactic(auto, using(crate::proofs::LoopLemmas::data_step, crate::proofs::LoopLemmas::data_end, crate::proofs::LoopLemmas::list_step, crate::proofs::LoopLemmas::list_end))]
 pub(crate) fn is_among_parts(operand: &Operand<'_, '_>, part: &Part<'_, '_>) -> Result<bool, Memory>
     ensures { IfOk result (λ b. b ≡ is_among_parts (datum_of operand.now) (items_of part.now)) }
 {
-    for k in 0..part.len() {
-        let Some(item) = part.item(k as u128) else {
-            return Ok(false);
-        };
+    for item in part.items() {
         if is_json(operand, &item)? {
             return Ok(true);
         }

@@ -2,8 +2,7 @@ ghost use Rattle.std.specs.Prelude.{◌≡◌, ◌+◌, IfOk, MatchResult};
 ghost use Rattle.std.specs.Option.{option_copied};
 ghost use Rattle.lists.specs.Starved.{OrStarved};
 ghost use Rattle.cel_eval.specs.Cells.{IsInUnits};
-ghost use Rattle.cel_eval.specs.Data.{over_documents};
-ghost use Rattle.cel_eval.specs.Table.{value_of};
+ghost use Rattle.cel_eval.specs.Table.{evaluated, value_of};
 ghost use Rattle.cel_eval.specs.Operands.{datum_of};
 ghost use Rattle.cel_eval.specs.Data.{seen};
 ghost use Rattle.cel_eval.specs.declared.fault.EvalFault.TheVariants as fault;
@@ -28,7 +27,7 @@ pub fn eval<L: Ledger>(
     fresh: Option<&Tree<'_>>,
     steps: &mut Steps<L>,
 ) -> Result<Value, EvalFault>
-    ensures value { OrStarved fault.Memory (value_of expr.now (over_documents event.now (option_copied fresh.entry))) result }
+    ensures value { OrStarved fault.Memory (evaluated expr.now event.now (option_copied fresh.entry)) result }
     ensures units { IfOk result IsInUnits }
     ensures once { steps.new ≡ steps.old + 1 }
 {

@@ -10,7 +10,7 @@ ghost use Rattle.cel_eval.specs.Equality.{is_same};
 
 use crate::EvalFault;
 use crate::units::Units;
-use json_text::{Comparison, Kind, Node, Tree};
+use json_text::{Comparison, ItemNodes, Kind, Node, Tree};
 use lists::{Bytes, Memory};
 use std::marker::Model;
 use text_num::read_units;
@@ -67,6 +67,16 @@ impl<'t, 'a> Part<'t, 'a> {
             tree: self.tree,
             node,
         })
+    }
+
+    /// The items of a list in order, and none of the other kinds.
+    pub(crate) fn items(&self) -> PartItems<'t, 'a>
+        ensures { result ≡ items_of self.now }
+    {
+        PartItems {
+            tree: self.tree,
+            nodes: self.tree.items(self.node),
+        }
     }
 
     /// The k-th item of a list, from 0.
@@ -137,14 +147,7 @@ impl<'t, 'a> Part<'t, 'a> {
     pub(crate) fn in_range(&self) -> Result<bool, Memory>
         ensures { IfOk result (λ b. b ≡ in_range self.now) }
     {
-        let same = Part {
-            tree: self.tree,
-            node: self.node,
-        };
-        match self.compare(&same)? {
-            Comparison::OutOfRange => Ok(false),
-            _ => Ok(true),
-        }
+        Ok(self.tree.canonical(self.node)?.is_some())
     }
 
     pub(crate) fn is_same(&self, other: &Part<'_, '_>) -> Result<bool, Memory>
@@ -154,5 +157,47 @@ impl<'t, 'a> Part<'t, 'a> {
             Comparison::Equal => Ok(true),
             _ => Ok(false),
         }
+    }
+}
+
+/// The items of a list of a JSON text, in order. Contracts see those that are left.
+#[derive(Drop)]
+pub(crate) struct PartItems<'t, 'a> {
+    tree: &'t Tree<'a>,
+    nodes: ItemNodes<'t, 'a>,
+}
+
+impl<'t, 'a> Model for PartItems<'t, 'a> {
+    ghost use Rattle.std.specs.Prelude.{List, map};
+    ghost use Rattle.std.specs.List.{AllByRecursion};
+    ghost use Rattle.std.specs.Coded.{coded_list};
+    ghost use Rattle.cel_eval.specs.Data.{json_code};
+    ghost use Rattle.json_text.specs.Grammar.{Json};
+    ghost use Rattle.json_text.specs.Nodes.{IsNodeOf, value_at};
+
+    ghost Value = { List Json };
+
+    ghost coded = { coded_list json_code };
+
+    ghost view = { λ i. map (value_at i.tree.now) i.nodes };
+
+    ghost invariant = { λ i. AllByRecursion (IsNodeOf i.tree.now) i.nodes };
+}
+
+impl<'t, 'a> Iterator for PartItems<'t, 'a> {
+    type Item = Part<'t, 'a>;
+
+    ghost use Rattle.std.specs.Iterator.{YieldsFirst, item_count};
+
+    ghost next_gives = { YieldsFirst (λ i. i) };
+
+    ghost remaining = { item_count (λ i. i) };
+
+    fn next(&mut self) -> Option<Part<'t, 'a>> {
+        let node = self.nodes.next()?;
+        Some(Part {
+            tree: self.tree,
+            node,
+        })
     }
 }

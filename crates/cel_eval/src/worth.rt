@@ -2,7 +2,7 @@ ghost use Rattle.std.specs.Prelude.{◌≡◌, IfOk, Ok};
 ghost use Rattle.expr.specs.Trees.{tree_of, trees_of};
 ghost use Rattle.cel_eval.specs.Data.{Outcome, as_number, in_units, written};
 ghost use Rattle.cel_eval.specs.Operands.{Gives, GivesOf, GivesOfTwo};
-ghost use Rattle.cel_eval.specs.Operations.{member, index, has, call, text_method, signed, truth};
+ghost use Rattle.cel_eval.specs.Operations.{member, index, has, call, text_method, signed, truth, join, operate};
 ghost use Rattle.cel_eval.specs.Table.{worth, all_worth, then, then_all, both, binary, choose};
 
 use crate::EvalFault;
@@ -15,7 +15,8 @@ use expr::{Function, Method, Operator, Sign, Term};
 use lists::Memory;
 use std::alloc::Global;
 
-/// What a term is worth: each form by its own rule, over what its parts are worth.
+/// What a term is worth: each form by its own rule, over what its parts are worth. Of `||`, `&&` and `?:` it looks
+/// at no part that can't count.
 #[cycle(worth)]
 pub(crate) fn worth<'t, 'a>(
     term: &'t Term,
@@ -37,21 +38,27 @@ pub(crate) fn worth<'t, 'a>(
         Term::Call(function, argument) => call(*function, worth(argument, scope), scope.alloc()),
         Term::Method(kind, of, argument) => method(*kind, worth(of, scope), worth(argument, scope)),
         Term::Unary(sign, operand) => signed(*sign, worth(operand, scope)),
-        Term::Binary(operator, left, right) => {
-            binary(
+        Term::Binary(operator, left, right) => match operator {
+            Operator::Or => match truth(worth(left, scope))? {
+                Ok(true) => Ok(Operand::Bool(true)),
+                left => join(true, left, truth(worth(right, scope))?),
+            },
+            Operator::And => match truth(worth(left, scope))? {
+                Ok(false) => Ok(Operand::Bool(false)),
+                left => join(false, left, truth(worth(right, scope))?),
+            },
+            _ => binary(
                 *operator,
                 worth(left, scope),
                 worth(right, scope),
                 scope.alloc(),
-            )
-        }
-        Term::Choice(test, chosen, other) => {
-            choose(
-                worth(test, scope),
-                worth(chosen, scope),
-                worth(other, scope),
-            )
-        }
+            ),
+        },
+        Term::Choice(test, chosen, other) => match truth(worth(test, scope))? {
+            Ok(true) => worth(chosen, scope),
+            Ok(false) => worth(other, scope),
+            Err(fault) => Err(fault),
+        },
     }
 }
 
@@ -159,18 +166,14 @@ fn binary<'t, 'a>(
     right: Result<Operand<'t, 'a>, EvalFault>,
     alloc: Global,
 ) -> Result<Operand<'t, 'a>, EvalFault>
-    ensures { GivesOfTwo (binary operator) left.entry right.entry result }
+    ensures { GivesOfTwo (λ l r. both l r (operate operator)) left.entry right.entry result }
 {
-    match operator {
-        Operator::Or => join(true, truth(left)?, truth(right)?),
-        Operator::And => join(false, truth(left)?, truth(right)?),
-        _ => match left {
-            Ok(left) => match right {
-                Ok(right) => operate(operator, &left, &right, alloc),
-                Err(fault) => Err(fault),
-            },
+    match left {
+        Ok(left) => match right {
+            Ok(right) => operate(operator, &left, &right, alloc),
             Err(fault) => Err(fault),
         },
+        Err(fault) => Err(fault),
     }
 }
 
@@ -182,19 +185,5 @@ fn truth(operand: Result<Operand<'_, '_>, EvalFault>) -> Result<Result<bool, Eva
         Ok(operand) => Ok(operand.truth()),
         Err(EvalFault::Memory) => Err(Memory),
         Err(fault) => Ok(Err(fault)),
-    }
-}
-
-fn choose<'t, 'a>(
-    test: Result<Operand<'t, 'a>, EvalFault>,
-    chosen: Result<Operand<'t, 'a>, EvalFault>,
-    other: Result<Operand<'t, 'a>, EvalFault>,
-) -> Result<Operand<'t, 'a>, EvalFault>
-    ensures { (exact : Outcome) → Gives exact test.entry → GivesOfTwo (choose (truth exact)) chosen.entry other.entry result }
-{
-    match truth(test)? {
-        Ok(true) => chosen,
-        Ok(false) => other,
-        Err(fault) => Err(fault),
     }
 }

@@ -6,6 +6,7 @@ use Rattle.expr.specs.Trees.{tree_of}
 use Rattle.expr.specs.declared.term.Term.{the_lemmas as term_lemmas}
 use Rattle.cel_eval.specs.Operands.{Gives}
 use Rattle.cel_eval.specs.Table.{worth}
+use Rattle.cel_eval.proofs.JoinLemmas.{over_both}
 use Rattle.cel_eval.proofs.worth.+worth.Goals as goal
 
 pub worth-returns-in-Member : goal.worth-returns-in-Member
@@ -50,17 +51,10 @@ worth-returns-in-Method t c =
     let e : tree_of c.args.term.now ≡ form.method c.in-Method.kind (tree_of c.in-Method.of.value) (tree_of c.in-Method.argument.value) = search (rules, term_lemmas) in
     subst (λ (x : Tree). Gives (worth x c.args.scope.now) c.method.result) (sym e) h
 
-pub worth-returns-in-Binary : goal.worth-returns-in-Binary
-worth-returns-in-Binary t c =
-    let given = c.binary.ensures (worth (tree_of c.deref-in-Binary.result.now) c.args.scope.now) (worth (tree_of c.deref-in-Binary-2.result.now) c.args.scope.now) c.worth-in-Binary.ensures c.worth-in-Binary-2.ensures in
-    let h = rw (c.deref-in-Binary.ensures, c.deref-in-Binary-2.ensures) at given in
+pub worth-returns-in_default : goal.worth-returns-in_default
+worth-returns-in_default t c =
+    let given = c.binary.ensures (worth (tree_of c.deref-in_default.result.now) c.args.scope.now) (worth (tree_of c.deref-in_default-4.result.now) c.args.scope.now) c.worth-in_default.ensures c.worth-in_default-4.ensures in
+    let h = rw (c.deref-in_default.ensures, c.deref-in_default-4.ensures) at given in
     let e : tree_of c.args.term.now ≡ form.binary c.in-Binary.operator (tree_of c.in-Binary.left.value) (tree_of c.in-Binary.right.value) = search (rules, term_lemmas) in
-    subst (λ (x : Tree). Gives (worth x c.args.scope.now) c.binary.result) (sym e) h
-
-pub worth-returns-in-Choice : goal.worth-returns-in-Choice
-worth-returns-in-Choice t c =
-    let given = c.choose.ensures (worth (tree_of c.deref-in-Choice.result.now) c.args.scope.now) c.worth-in-Choice.ensures
-    (worth (tree_of c.deref-in-Choice-2.result.now) c.args.scope.now) (worth (tree_of c.deref-in-Choice-3.result.now) c.args.scope.now) c.worth-in-Choice-2.ensures c.worth-in-Choice-3.ensures in
-    let h = rw (c.deref-in-Choice.ensures, c.deref-in-Choice-2.ensures, c.deref-in-Choice-3.ensures) at given in
-    let e : tree_of c.args.term.now ≡ form.choice (tree_of c.in-Choice.test.value) (tree_of c.in-Choice.chosen.value) (tree_of c.in-Choice.other.value) = search (rules, term_lemmas) in
-    subst (λ (x : Tree). Gives (worth x c.args.scope.now) c.choose.result) (sym e) h
+    let k = over_both c.in-Binary.operator (worth (tree_of c.in-Binary.left.value) c.args.scope.now) (worth (tree_of c.in-Binary.right.value) c.args.scope.now) c.in_default.not-Or c.in_default.not-And in
+    subst (λ (x : Tree). Gives (worth x c.args.scope.now) c.binary.result) (sym e) (subst (λ x. Gives x c.binary.result) k h)
