@@ -42,7 +42,7 @@ piece-on old new rest h =
 pub pieces-first : (x : ℕ) (xs : List ℕ) → pieces (x ∷ xs) ≡ cut_at 38 (x ∷ xs)
 pieces-first x xs = refl
 
-two-more : (kept : List (List ℕ)) (a b : List ℕ) → join_with_byte 38 (kept ++ a ∷ b ∷ []) ≡ ended kept ++ a ++ 38 ∷ b
+pub two-more : (kept : List (List ℕ)) (a b : List ℕ) → join_with_byte 38 (kept ++ a ∷ b ∷ []) ≡ ended kept ++ a ++ 38 ∷ b
 two-more [] a b = refl
 two-more (k ∷ []) a b = simp append_assoc
 two-more (k ∷ l ∷ kept) a b = ap (λ text. k ++ 38 ∷ text) (two-more (l ∷ kept) a b) ∙ simp append_assoc

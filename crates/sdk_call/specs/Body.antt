@@ -3,6 +3,7 @@ use Rattle.std.specs.Prelude.{ℕ, Bool, List, [], ◌∷◌, ◌++◌, codes, d
 use Rattle.std.specs.List.{join_with_byte}
 use Rattle.kinds.specs.declared.store.StepEntry.{StepEntry}
 use Rattle.sdk_call.specs.Query.{call_query}
+use Rattle.sdk_call.specs.declared.parts.CallParts.{CallParts}
 
 -- the path with its query
 abbrev pub call_path : List ℕ → List ℕ → List ℕ → List ℕ → List ℕ
@@ -30,3 +31,14 @@ abbrev pub call_body : List ℕ → ℕ → Bool → List (List ℕ) → List St
 call_body run_id attempt planned events steps =
     codes "{\"ctx\":" ++ context run_id attempt planned ++ codes ",\"event\":" ++ first_of events
     ++ codes ",\"events\":[" ++ parted events ++ codes "],\"steps\":{" ++ parted (map step_member steps) ++ codes "},\"use_api\":false}"
+
+-- ## Of a call
+
+abbrev pub path_of : CallParts → List ℕ
+path_of parts = call_path parts.function.now.path parts.function.now.query parts.function.now.id parts.target.now
+
+abbrev pub events_of : CallParts → List (List ℕ)
+events_of parts = map (λ event. event.now) parts.events.now
+
+abbrev pub body_of : CallParts → List ℕ
+body_of parts = call_body parts.run_id parts.attempt parts.planned (events_of parts) parts.steps.now

@@ -1,27 +1,42 @@
 ghost use Rattle.std.specs.Prelude.{◌≡◌, ◌≢◌, ◌++◌, ◌∷◌, [], IfOk, OnOk, codes, map, ◌==◌, if◌then◌else◌};
-ghost use Rattle.sdk_call.specs.Body.{call_path, call_body, context, first_of, parted, step_member};
+ghost use Rattle.sdk_call.specs.Body.{body_of, context, first_of, parted, path_of, step_member};
 
 use crate::parts::{CallParts, CallText};
 use crate::query::push_query;
+use crate::room::{begun, body_room, path_room};
 use kinds::StepEntry;
 use lists::{Bytes, Memory};
 use std::alloc::Global;
 
-/// The path and the body of a call.
+/// The path and the body of a call. The room of each is taken once.
 pub fn call_text(alloc: Global, parts: &CallParts<'_>) -> Result<CallText, Memory>
     requires { parts.now.events.now ≢ [] }
-    ensures path { IfOk result (λ text. text.path ≡ call_path parts.now.function.now.path parts.now.function.now.query parts.now.function.now.id parts.now.target.now) }
-    ensures body { IfOk result (λ text. text.body ≡ call_body parts.now.run_id parts.now.attempt parts.now.planned (map (λ event. event.now) parts.now.events.now) parts.now.steps.now) }
+    ensures path { IfOk result (λ text. text.path ≡ path_of parts.now) }
+    ensures body { IfOk result (λ text. text.body ≡ body_of parts.now) }
 {
-    let mut path = Bytes::from_slice(alloc, parts.function.path.as_slice())?;
+    let path = path_text(alloc, parts)?;
+    let body = body_text(alloc, parts)?;
+    Ok(CallText { path, body })
+}
+
+fn path_text(alloc: Global, parts: &CallParts<'_>) -> Result<Bytes, Memory>
+    ensures { IfOk result (λ path. path ≡ path_of parts.now) }
+{
+    let registered = parts.function.path.as_slice();
+    let query = parts.function.query.as_slice();
+    let id = parts.function.id.as_slice();
+    let room = path_room(registered, query, id, parts.target);
+    let mut path = begun(alloc, room, registered)?;
     path.push(b'?')?;
-    push_query(
-        &mut path,
-        parts.function.query.as_slice(),
-        parts.function.id.as_slice(),
-        parts.target,
-    )?;
-    let mut body = Bytes::from_slice(alloc, b"{\"ctx\":")?;
+    push_query(&mut path, query, id, parts.target)?;
+    Ok(path)
+}
+
+fn body_text(alloc: Global, parts: &CallParts<'_>) -> Result<Bytes, Memory>
+    requires { parts.now.events.now ≢ [] }
+    ensures { IfOk result (λ body. body ≡ body_of parts.now) }
+{
+    let mut body = begun(alloc, body_room(parts), b"{\"ctx\":")?;
     push_context(&mut body, &parts.run_id, parts.attempt, parts.planned)?;
     body.extend_from_slice(b",\"event\":")?;
     body.extend_from_slice(first_event(parts.events))?;
@@ -30,10 +45,10 @@ pub fn call_text(alloc: Global, parts: &CallParts<'_>) -> Result<CallText, Memor
     body.extend_from_slice(b"],\"steps\":{")?;
     push_steps(&mut body, parts.steps)?;
     body.extend_from_slice(b"},\"use_api\":false}")?;
-    Ok(CallText { path, body })
+    Ok(body)
 }
 
-fn first_event<'a>(events: &'a [&'a [u8]]) -> &'a [u8]
+pub(crate) fn first_event<'a>(events: &'a [&'a [u8]]) -> &'a [u8]
     requires { events.now ≢ [] }
     ensures { result.now ≡ first_of (map (λ event. event.now) events.now) }
 {

@@ -1,7 +1,7 @@
 ghost use Rattle.std.specs.Prelude.{◌≡◌, ◌++◌, IfOk, OnOk, codes};
-ghost use Rattle.std.specs.Option.{option_map};
-ghost use Rattle.sdk_call.specs.Head.{head, host_line, signature_line};
+ghost use Rattle.sdk_call.specs.Head.{head, held, host_line, signature_line};
 
+use crate::room::{begun, head_room};
 use lists::{Bytes, Memory};
 use std::alloc::Global;
 
@@ -19,9 +19,9 @@ pub fn head_text(
     length: usize,
     signature: Option<&[u8]>,
 ) -> Result<Bytes, Memory>
-    ensures { IfOk result (λ text. text ≡ head host.now port path.now length (option_map (λ s. s.now) signature.entry)) }
+    ensures { IfOk result (λ text. text ≡ head host.now port path.now length (held signature.entry)) }
 {
-    let mut text = Bytes::from_slice(alloc, b"POST ")?;
+    let mut text = begun(alloc, head_room(host, path, signature), b"POST ")?;
     text.extend_from_slice(path)?;
     text.extend_from_slice(b" HTTP/1.1\r\nHost: ")?;
     push_host(&mut text, host, port)?;
@@ -45,7 +45,7 @@ fn push_host(text: &mut Bytes, host: &[u8], port: u16) -> Result<(), Memory>
 }
 
 fn push_signature(text: &mut Bytes, signature: Option<&[u8]>) -> Result<(), Memory>
-    ensures { OnOk result (text.new ≡ text.old ++ signature_line (option_map (λ s. s.now) signature.entry)) }
+    ensures { OnOk result (text.new ≡ text.old ++ signature_line (held signature.entry)) }
 {
     match signature {
         Some(signature) => push_field(text, signature),
@@ -54,7 +54,8 @@ fn push_signature(text: &mut Bytes, signature: Option<&[u8]>) -> Result<(), Memo
 }
 
 fn push_field(text: &mut Bytes, signature: &[u8]) -> Result<(), Memory>
-    ensures { OnOk result (text.new ≡ text.old ++ codes "X-Inngest-Signature: " ++ signature.now ++ codes "\r\n") }
+    ensures { OnOk result (text.new
+        ≡ text.old ++ codes "X-Inngest-Signature: " ++ signature.now ++ codes "\r\n") }
 {
     text.extend_from_slice(b"X-Inngest-Signature: ")?;
     text.extend_from_slice(signature)?;

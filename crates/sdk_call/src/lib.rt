@@ -6,7 +6,11 @@ mod body;
 mod head;
 mod parts;
 mod query;
+mod room;
 
 pub use body::call_text;
 pub use head::head_text;
 pub use parts::{CallParts, CallText};
+
+#[cfg(test)]
+mod tests;

@@ -1,0 +1,7 @@
+pub mod After
+pub mod Dates
+pub mod Delay
+pub mod Operations
+pub mod Ops
+pub mod Outcome
+pub mod Plain

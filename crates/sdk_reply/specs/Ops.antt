@@ -1,0 +1,21 @@
+-- The operations of a list, or the first that isn't valid.
+use Rattle.std.specs.Prelude.{ℕ, List, [], ◌∷◌, Option, Some, None, Result, Ok, Err}
+use Rattle.json_text.specs.Nodes.{Document, value_at}
+use Rattle.json_text.specs.Starts.{start_at}
+use Rattle.kinds.specs.declared.reply.Op.{Op}
+use Rattle.sdk_reply.specs.declared.ops.OpsFault.{OpsFault}
+use Rattle.sdk_reply.specs.declared.ops.OpsFault.TheVariants.{NotValid}
+use Rattle.sdk_reply.specs.Operations.{op_of}
+
+abbrev pub before_ops : Op → Result (List Op) OpsFault → Result (List Op) OpsFault
+before_ops op (Ok ops) = Ok (op ∷ ops)
+before_ops op (Err fault) = Err fault
+
+abbrev pub with_ops : ℕ → Option Op → Result (List Op) OpsFault → Result (List Op) OpsFault
+with_ops at None ops = Err (NotValid at)
+with_ops at (Some op) ops = before_ops op ops
+
+-- the operations at these nodes, or where the first begins that isn't valid
+unfoldable pub ops_at : Document → List ℕ → Result (List Op) OpsFault
+ops_at d [] = Ok []
+ops_at d (node ∷ nodes) = with_ops (start_at d node) (op_of (value_at d node)) (ops_at d nodes)

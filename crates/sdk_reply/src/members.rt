@@ -1,0 +1,178 @@
+ghost use Rattle.std.specs.Prelude.{◌≡◌, IfOk, IfSome, codes, option_map};
+ghost use Rattle.json_text.specs.Nodes.{IsNodeOf, kind_of, value_at};
+ghost use Rattle.json_text.specs.Text.{member_of, text_of, unescaped};
+ghost use Rattle.json_text.specs.declared.kind.Kind.TheVariants as kind;
+ghost use Rattle.sdk_reply.specs.Plain.{is_no_escape, is_plain};
+ghost use Rattle.sdk_reply.specs.Operations.{as_hash, as_name, hash_in, name_in, option_of, option_or_name, slice_in, slice_or_null, text_in};
+
+use json_text::{Kind, Node, Tree};
+use kinds::StepHash;
+use lists::{Bytes, Memory};
+use std::alloc::Global;
+use step_ids::is_step_hash;
+
+/// The last member of this name.
+pub(crate) fn member_of(tree: &Tree<'_>, node: Node, name: &[u8]) -> Option<Node>
+    requires { IsNodeOf tree.now node }
+    ensures node { IfSome result (IsNodeOf tree.now) }
+    ensures value { option_map (value_at tree.now) result ≡ member_of (value_at tree.now node) name.now }
+{
+    tree.member(node, name)
+}
+
+/// A member of the member `opts`.
+pub(crate) fn option_of(tree: &Tree<'_>, node: Node, name: &[u8]) -> Option<Node>
+    requires { IsNodeOf tree.now node }
+    ensures node { IfSome result (IsNodeOf tree.now) }
+    ensures value { option_map (value_at tree.now) result ≡ option_of (value_at tree.now node) name.now }
+{
+    match member_of(tree, node, b"opts") {
+        Some(options) => member_of(tree, options, name),
+        None => None,
+    }
+}
+
+/// A member of the member `opts`, or where it is absent the member `name`.
+pub(crate) fn option_or_name(tree: &Tree<'_>, node: Node, name: &[u8]) -> Option<Node>
+    requires { IsNodeOf tree.now node }
+    ensures node { IfSome result (IsNodeOf tree.now) }
+    ensures value { option_map (value_at tree.now) result ≡ option_or_name (value_at tree.now node) name.now }
+{
+    match option_of(tree, node, name) {
+        Some(option) => Some(option),
+        None => member_of(tree, node, b"name"),
+    }
+}
+
+/// What stands between the quotes of a string, where it stands for itself.
+pub(crate) fn plain(spelling: &[u8]) -> Option<&[u8]>
+    ensures { IfSome result (λ text. text.now ≡ unescaped spelling.now) }
+{
+    match spelling {
+        [_, inside @ .., _] if is_plain(inside) => Some(inside),
+        _ => None,
+    }
+}
+
+fn is_plain(text: &[u8]) -> bool
+    ensures { result ≡ is_plain text.now }
+{
+    text.iter().all(|byte| is_no_escape(*byte))
+}
+
+fn is_no_escape(byte: u8) -> bool
+    ensures { result ≡ is_no_escape byte }
+{
+    byte != b'\\'
+}
+
+/// A text, unescaped.
+pub(crate) fn text_in(
+    alloc: Global,
+    tree: &Tree<'_>,
+    node: Option<Node>,
+) -> Result<Option<Bytes>, Memory>
+    requires { IfSome node (IsNodeOf tree.now) }
+    ensures { IfOk result (λ text. text ≡ text_in (option_map (value_at tree.now) node)) }
+{
+    match node {
+        Some(node) if tree.kind(node) == Kind::Text => Ok(Some(text_of(alloc, tree, node)?)),
+        _ => Ok(None),
+    }
+}
+
+fn text_of(alloc: Global, tree: &Tree<'_>, node: Node) -> Result<Bytes, Memory>
+    requires node { IsNodeOf tree.now node }
+    requires text { kind_of (value_at tree.now node) ≡ kind.Text }
+    ensures { IfOk result (λ text. text ≡ text_of (value_at tree.now node)) }
+{
+    match plain(tree.slice(node)) {
+        Some(text) => Bytes::from_slice(alloc, text),
+        None => tree.text_of(node),
+    }
+}
+
+/// A text that isn't empty.
+pub(crate) fn name_in(
+    alloc: Global,
+    tree: &Tree<'_>,
+    node: Option<Node>,
+) -> Result<Option<Bytes>, Memory>
+    requires { IfSome node (IsNodeOf tree.now) }
+    ensures { IfOk result (λ name. name ≡ name_in (option_map (value_at tree.now) node)) }
+{
+    match text_in(alloc, tree, node)? {
+        Some(text) => Ok(as_name(text)),
+        None => Ok(None),
+    }
+}
+
+fn as_name(text: Bytes) -> Option<Bytes>
+    ensures { result ≡ as_name text }
+{
+    if text.is_empty() { None } else { Some(text) }
+}
+
+/// Any value as it stands in the reply.
+pub(crate) fn slice_in(
+    alloc: Global,
+    tree: &Tree<'_>,
+    node: Option<Node>,
+) -> Result<Option<Bytes>, Memory>
+    requires { IfSome node (IsNodeOf tree.now) }
+    ensures { IfOk result (λ text. text ≡ slice_in (option_map (value_at tree.now) node)) }
+{
+    match node {
+        Some(node) => Ok(Some(Bytes::from_slice(alloc, tree.slice(node))?)),
+        None => Ok(None),
+    }
+}
+
+/// Any value as it stands in the reply, and `null` where it is absent.
+pub(crate) fn slice_or_null(
+    alloc: Global,
+    tree: &Tree<'_>,
+    node: Option<Node>,
+) -> Result<Bytes, Memory>
+    requires { IfSome node (IsNodeOf tree.now) }
+    ensures { IfOk result (λ text. text ≡ slice_or_null (option_map (value_at tree.now) node)) }
+{
+    match node {
+        Some(node) => Bytes::from_slice(alloc, tree.slice(node)),
+        None => Bytes::from_slice(alloc, b"null"),
+    }
+}
+
+/// The name of a step.
+pub(crate) fn hash_in(tree: &Tree<'_>, node: Option<Node>) -> Result<Option<StepHash>, Memory>
+    requires { IfSome node (IsNodeOf tree.now) }
+    ensures { IfOk result (λ hash. hash ≡ hash_in (option_map (value_at tree.now) node)) }
+{
+    match node {
+        Some(node) if tree.kind(node) == Kind::Text => hash_of(tree, node),
+        _ => Ok(None),
+    }
+}
+
+fn hash_of(tree: &Tree<'_>, node: Node) -> Result<Option<StepHash>, Memory>
+    requires node { IsNodeOf tree.now node }
+    requires text { kind_of (value_at tree.now node) ≡ kind.Text }
+    ensures { IfOk result (λ hash. hash ≡ as_hash (text_of (value_at tree.now node))) }
+{
+    match plain(tree.slice(node)) {
+        Some(text) => Ok(as_hash(text)),
+        None => Ok(as_hash(tree.text_of(node)?.as_slice())),
+    }
+}
+
+fn as_hash(text: &[u8]) -> Option<StepHash>
+    ensures { result ≡ as_hash text.now }
+{
+    if is_step_hash(text) {
+        let mut digits = [0; 40];
+        digits.copy_from_slice(text);
+        Some(StepHash::new(digits))
+    } else {
+        None
+    }
+}
