@@ -5,6 +5,7 @@ ghost use Rattle.lists.specs.Entries.{AreApart};
 ghost use Rattle.ordered.specs.Indexes.{IsSorted};
 ghost use Rattle.kinds.specs.Windows.{number_of, version_of, value_of, kind_of, place_of, has_number, is_of, without_number, others, insert_window, after_event, standing, offered, has_room, fired, IsRule, IsDated, last_moment};
 ghost use Rattle.debounce_batch.specs.Held.{key_of};
+ghost use Rattle.debounce_batch.specs.Events.{answer_to, after_offer, StandsAt, replaced};
 
 use crate::entries::Entries;
 use crate::event::{closed, is_full, joined, opened, waits};
@@ -65,10 +66,8 @@ impl Windows {
         requires room { has_room rule.now (find (is_of version value.now) self.old) ≡ true }
         requires rule { IsRule rule.now }
         requires moment { t ≤ last_moment }
-        ensures answer { let w = after_event rule.now version value.now event t number (find (is_of version value.now) self.old) in
-            IfOk result (λ answer. answer ≡ offered rule.now w) }
-        ensures ok { let w = after_event rule.now version value.now event t number (find (is_of version value.now) self.old) in
-            OnOk result (self.new ≡ standing rule.now w self.old) }
+        ensures answer { IfOk result (λ a. a ≡ answer_to rule.now version value.now event t number self.old) }
+        ensures ok { OnOk result (self.new ≡ after_offer rule.now version value.now event t number self.old) }
         ensures err { OnErr result (self.new ≡ self.old) }
     {
         let key = (version, value.clone()?);
@@ -156,9 +155,9 @@ impl Windows {
 
     /// A window takes the place of the one that is open for its version and value.
     fn replace(&mut self, window: Window) -> Result<(), Memory>
-        requires place { option_map place_of (find (is_of (version_of window) (value_of window)) self.old) ≡ Some (place_of window) }
+        requires place { StandsAt window self.old }
         requires dated { IsDated window }
-        ensures ok { OnOk result (self.new ≡ insert_window window (others (version_of window) (value_of window) self.old)) }
+        ensures ok { OnOk result (self.new ≡ replaced window self.old) }
         ensures err { OnErr result (self.new ≡ self.old) }
     {
         let place = place_of(&window);

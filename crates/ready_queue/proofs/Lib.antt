@@ -1,3 +1,11 @@
+pub mod FrontLemmas
 pub mod HeadLemmas
+pub mod IndexLemmas
+pub mod LeastLemmas
+pub mod Pigeons
+pub mod PoolLemmas
 pub mod RankLemmas
+pub mod ReadyLemmas
+pub mod RunLemmas
+pub mod ScanLemmas
 pub mod WalkLemmas

@@ -1,203 +1,202 @@
--- One item more: of what is found so far, and of the next moment so far. The map of items after one came or went.
-use Rattle.std.proofs.Common.{◌≡◌, ℕ, ◌+◌, ◌<◌, ◌≤◌, nat_le, nat_lt, Bool, true, false, cond, not, ◌&&◌, List, [], ◌∷◌, Option, Some, None, refl, sym, ap, ap₂, ◌∙◌, subst, arith, length, min}
-use Rattle.std.specs.BTreeMap.{insert_entry, is_at}
-use Rattle.std.specs.List.{AllByRecursion, filter, find}
+-- The least key of a group, and the walk over the entries that finds the least key of the open groups.
+use Rattle.std.proofs.Common.{◌≡◌, ◌⊎◌, ℕ, ◌+◌, ◌≤◌, ◌==◌, nat_lt, nat_le, Bool, true, false, cond, ◌&&◌, ◌||◌, List, [], ◌∷◌, Some, None, Option, refl, sym, ap, ◌∙◌, arith, subst, inl, inr, length, eqb-true, ap₂}
+use Rattle.std.specs.Bool.{IsTrue}
+use Rattle.std.specs.Option.{MatchOption, IfSome}
+use Rattle.std.specs.List.{list_any, slice_get, AllByRecursion}
+use Rattle.std.specs.BTreeMap.{is_at}
+use Rattle.std.specs.BTreeMap.Range.{IsInRange}
+use Rattle.std.specs.declared.ops.Bound.TheVariants.{Included, Unbounded}
 use Rattle.std.specs.List.Sorted.{IsStrictlySortedBy}
-use Rattle.std.specs.Map.{keys_of, values_of, remove_entry}
-use Rattle.std.specs.Ordering.{nat_cmp}
+use Rattle.std.specs.Ordering.{is_lt, is_gt, is_eq, nat_cmp}
+use Rattle.std.specs.declared.cmp.Ordering.TheVariants.{Less}
 use Rattle.std.proofs.lemmas.Bool.Decides.{nat_tests}
-use Rattle.lists.proofs.Elements.{all-filter}
-use Rattle.lists.proofs.Keyed.{keyed}
-use Rattle.lists.proofs.Stored.{InsertsByNumber, stored_from, stored_empty, numbered_put, numbered_left}
-use Rattle.kinds.specs.Cells.{IsStart}
-use Rattle.kinds.specs.Queue.{number_of, has_number, without_number, insert_item, is_admissible, moment_of, sooner, next_item}
-use Rattle.kinds.specs.declared.cell.Cell.{Cell}
-use Rattle.kinds.specs.declared.cell.CellLimit.{CellLimit}
-use Rattle.kinds.specs.declared.cell.IssueEntry.{IssueEntry}
-use Rattle.kinds.specs.declared.cell.StartEntry.{StartEntry}
-use Rattle.kinds.specs.declared.store.Item.{Item}
-use Rattle.ready_queue.specs.Heads.{has_lesser, leads, rank, joined, least_rank, IsStep}
-use Rattle.ready_queue.specs.Queue.{IsQueue}
-use Rattle.ready_queue.proofs.RankLemmas.{Rank, joined_none, joined_joined}
+use Rattle.std.proofs.lemmas.Map.Keys.{sorted_head, sorted_tail}
+use Rattle.ready_queue.specs.Keys.{key_cmp, has, at_most, IsHeadAt, IsHead, IsOpenKey, IsUpTo, IsSound, IsLooked, IsLeastOpen, IsLed, Lead, AreAlike, stops}
 
--- ---- a step
+-- ---- (score, number) in order
 
-kept : (b : Bool) (best r : Option Rank) → (b ≡ true → r ≡ best) → best ≡ cond b r best
-kept true best r h = sym (h refl)
-kept false best r h = refl
+pub at_most_trans : (a b c : ℕ × ℕ) → at_most a b ≡ true → at_most b c ≡ true → at_most a c ≡ true
+unfolding at_most
+at_most_trans a b c h k = grind (arith, nat_tests)
 
-pub step_kept : (heads passes : Item → Bool) (item : Item) (best : Option Rank) (was : ℕ) → ((heads item && passes item) ≡ true → joined best (Some (rank item)) ≡ best)
-    → IsStep heads passes item best best was was
-step_kept heads passes item best was h = (kept (heads item && passes item) best (joined best (Some (rank item))) h, omega arith)
+pub at_most_self : (a : ℕ × ℕ) → at_most a a ≡ true
+unfolding at_most
+at_most_self a = grind (arith, nat_tests)
 
-and_false : (a : Bool) → (a && false) ≡ false
-and_false true = refl
-and_false false = refl
+pub at_most_other : (a b : ℕ × ℕ) → at_most a b ≡ false → at_most b a ≡ true
+unfolding at_most
+at_most_other a b h = grind (arith, nat_tests)
 
-no_way : {A : Type 0} → false ≡ true → A
-no_way e = cc
+-- ---- the head of a group
 
-pub late : (t : ℕ) (items : List Item) (item : Item) → t < item.due → leads t items item ≡ false
-unfolding leads
-late t items item h = ap (λ b. b && not (has_lesser t items item)) (past t item.due h)
+from_start : (g s n : ℕ) → is_gt (key_cmp (g, 0, 0) (g, s, n)) ≡ false
+from_start g s n = grind (arith, nat_tests)
+
+not_after : (g s n u m : ℕ) → is_gt (key_cmp (g, s, n) (g, u, m)) ≡ false → at_most (s, n) (u, m) ≡ true
+unfolding at_most
+not_after g s n u m h = grind (arith, nat_tests)
+
+beyond : (g k s n u m : ℕ) → is_gt (key_cmp (g, 0, 0) (k, s, n)) ≡ false → is_gt (key_cmp (k, s, n) (g, u, m)) ≡ false → k ≡ g
+beyond g k s n u m h j = grind (arith, nat_tests)
+
+pub head_none : (keys r : List (ℕ × ℕ × ℕ)) (g : ℕ)
+    → (r ≡ [] → (q : ℕ × ℕ × ℕ) → IsInRange key_cmp (Included (g, 0, 0)) Unbounded q → list_any (is_at (key_cmp q)) keys ≡ false)
+    → r ≡ [] → (s n : ℕ) → has keys g s n ≡ false
+unfolding has
+head_none keys r g h e s n = h e (g, s, n) (from_start g s n, tt)
+
+pub head_found : (keys r t : List (ℕ × ℕ × ℕ)) (g k s n : ℕ)
+    → IfSome (slice_get r 0) (λ x. IsInRange key_cmp (Included (g, 0, 0)) Unbounded x × IsTrue (list_any (is_at (key_cmp x)) keys))
+    → ((q : ℕ × ℕ × ℕ) → IsInRange key_cmp (Included (g, 0, 0)) Unbounded q → IsTrue (list_any (is_at (key_cmp q)) keys) → IfSome (slice_get r 0) (λ x. is_gt (key_cmp x q) ≡ false))
+    → r ≡ (k, s, n) ∷ t → k ≡ g → IsHeadAt keys g (s, n)
+unfolding has
+head_found keys r t g k s n here least e same = (
+  subst (λ x. list_any (is_at (key_cmp (x, s, n))) keys ≡ true) same (subst (λ (l : List (ℕ × ℕ × ℕ)). IfSome (slice_get l 0) (λ x. IsInRange key_cmp (Included (g, 0, 0)) Unbounded x × IsTrue (list_any (is_at (key_cmp x)) keys))) e here).1,
+  λ u m h. not_after g s n u m (subst (λ x. is_gt (key_cmp (x, s, n) (g, u, m)) ≡ false) same
+      (subst (λ (l : List (ℕ × ℕ × ℕ)). IfSome (slice_get l 0) (λ x. is_gt (key_cmp x (g, u, m)) ≡ false)) e (least (g, u, m) (from_start g u m, tt) h))),
+)
+
+pub head_other : (keys r t : List (ℕ × ℕ × ℕ)) (g k s n : ℕ)
+    → IfSome (slice_get r 0) (λ x. IsInRange key_cmp (Included (g, 0, 0)) Unbounded x × IsTrue (list_any (is_at (key_cmp x)) keys))
+    → ((q : ℕ × ℕ × ℕ) → IsInRange key_cmp (Included (g, 0, 0)) Unbounded q → IsTrue (list_any (is_at (key_cmp q)) keys) → IfSome (slice_get r 0) (λ x. is_gt (key_cmp x q) ≡ false))
+    → r ≡ (k, s, n) ∷ t → (k ≡ g → ⊥) → (u m : ℕ) → has keys g u m ≡ false
+unfolding has
+head_other keys r t g k s n here least e differs u m = by_test (list_any (is_at (key_cmp (g, u, m))) keys) refl
   where
-    past : (t d : ℕ) → t < d → nat_le d t ≡ false
-    past t d h = grind (arith, nat_tests)
+    in_range : is_gt (key_cmp (g, 0, 0) (k, s, n)) ≡ false
+    in_range = (subst (λ (l : List (ℕ × ℕ × ℕ)). IfSome (slice_get l 0) (λ x. IsInRange key_cmp (Included (g, 0, 0)) Unbounded x × IsTrue (list_any (is_at (key_cmp x)) keys))) e here).0.0
 
-pub behind_lesser : (t : ℕ) (items : List Item) (item : Item) → has_lesser t items item ≡ true → leads t items item ≡ false
-unfolding leads
-behind_lesser t items item h = ap (λ b. nat_le item.due t && not b) h ∙ and_false (nat_le item.due t)
+    by_test : (b : Bool) → list_any (is_at (key_cmp (g, u, m))) keys ≡ b → list_any (is_at (key_cmp (g, u, m))) keys ≡ false
+    by_test true h = absurd (differs (beyond g k s n u m in_range (subst (λ (l : List (ℕ × ℕ × ℕ)). IfSome (slice_get l 0) (λ x. is_gt (key_cmp x (g, u, m)) ≡ false)) e (least (g, u, m) (from_start g u m, tt) h))))
+    by_test false h = h
 
-pub step_idle : (heads passes : Item → Bool) (item : Item) (best : Option Rank) (was : ℕ) → heads item ≡ false → IsStep heads passes item best best was was
-step_idle heads passes item best was h = step_kept heads passes item best was (λ e. no_way (sym (ap (λ b. b && passes item) h) ∙ e))
+-- ---- one look
 
-is_due : (t d : ℕ) → d ≤ t → nat_le d t ≡ true
-is_due t d h = grind (arith, nat_tests)
+pub looked_none : (open_at : ℕ → Bool) (keys : List (ℕ × ℕ × ℕ)) (g : ℕ) (best : Option (ℕ × ℕ)) → ((s n : ℕ) → has keys g s n ≡ false) → IsLooked open_at keys g best best
+looked_none open_at keys g best h = record { sound = λ x. x; kept = λ x w. w; within = λ s n e o. absurd (let no : true ≡ false = sym e ∙ h s n in cc) }
 
-leading : (t : ℕ) (items : List Item) (item : Item) → item.due ≤ t → has_lesser t items item ≡ false → leads t items item ≡ true
-unfolding leads
-leading t items item h n = ap₂ (λ u v. u && not v) (is_due t item.due h) n
+pub looked_no_better : (open_at : ℕ → Bool) (keys : List (ℕ × ℕ × ℕ)) (g : ℕ) (b h : ℕ × ℕ) → IsHeadAt keys g h → at_most b h ≡ true → IsLooked open_at keys g (Some b) (Some b)
+looked_no_better open_at keys g b h head le = record { sound = λ x. x; kept = λ x w. w; within = λ s n e o. at_most_trans b h (s, n) le (head.1 s n e) }
 
-pub step_open : (t : ℕ) (items : List Item) (gate : List CellLimit → Option Cell → Bool) (item : Item) (best : Option Rank) (was now : ℕ) → item.due ≤ t → has_lesser t items item ≡ false
-    → joined best (Some (rank item)) ≡ Some (rank item) → gate item.cells item.start ≡ true → now ≡ was + 1 → IsStep (leads t items) (is_admissible gate t) item best (Some (rank item)) was now
-step_open t items gate item best was now d n j g s =
-    let leads_it = leading t items item d n in (
-      sym j ∙ sym (ap (λ b. cond b (joined best (Some (rank item))) best) (ap₂ (λ u v. u && v) leads_it (ap₂ (λ u v. u && v) (is_due t item.due d) g))),
-      (let one : cond {A = ℕ} (leads t items item) 1 0 ≡ 1 = ap (λ b. cond {A = ℕ} b 1 0) leads_it in omega (arith, one, s)),
-    )
+pub looked_closed : (open_at : ℕ → Bool) (keys : List (ℕ × ℕ × ℕ)) (g : ℕ) (best : Option (ℕ × ℕ)) (h : ℕ × ℕ) → AreAlike open_at keys → IsHeadAt keys g h → open_at h.1 ≡ false → IsLooked open_at keys g best best
+looked_closed open_at keys g best h alike head c = record {
+  sound = λ x. x;
+  kept = λ x w. w;
+  within = λ s n e o. absurd (let no : true ≡ false = sym o ∙ alike g s n h.0 h.1 e head.0 ∙ c in cc);
+}
 
-pub step_closed : (t : ℕ) (items : List Item) (gate : List CellLimit → Option Cell → Bool) (item : Item) (best : Option Rank) (was now : ℕ) → item.due ≤ t → has_lesser t items item ≡ false
-    → gate item.cells item.start ≡ false → now ≡ was + 1 → IsStep (leads t items) (is_admissible gate t) item best best was now
-step_closed t items gate item best was now d n g s =
-    let leads_it = leading t items item d n in (
-      sym (ap (λ b. cond b (joined best (Some (rank item))) best) (ap₂ (λ u v. u && v) leads_it (ap₂ (λ u v. u && v) (is_due t item.due d) g))),
-      (let one : cond {A = ℕ} (leads t items item) 1 0 ≡ 1 = ap (λ b. cond {A = ℕ} b 1 0) leads_it in omega (arith, one, s)),
-    )
+-- what comes in place of the best is at most it
+pub looked_better : (open_at : ℕ → Bool) (keys : List (ℕ × ℕ × ℕ)) (g : ℕ) (best : Option (ℕ × ℕ)) (h : ℕ × ℕ) → IsHeadAt keys g h → open_at h.1 ≡ true
+    → ((x : ℕ × ℕ) → IsUpTo best x → at_most h x ≡ true) → IsLooked open_at keys g best (Some h)
+looked_better open_at keys g best h head o le = record { sound = λ x. (g, head.0, o); kept = le; within = λ s n e p. head.1 s n e }
+
+-- what the best is within, the head is too, where the best doesn't come first
+pub kept_some : (best : Option (ℕ × ℕ)) (b h : ℕ × ℕ) → best ≡ Some b → at_most b h ≡ false → (x : ℕ × ℕ) → IsUpTo best x → at_most h x ≡ true
+kept_some best b h e f x y = at_most_trans h b x (at_most_other b h f) (subst (λ o. IsUpTo o x) e y)
+
+pub kept_none : (best : Option (ℕ × ℕ)) (h : ℕ × ℕ) → best ≡ None → (x : ℕ × ℕ) → IsUpTo best x → at_most h x ≡ true
+kept_none best h e x y = absurd (subst (λ o. IsUpTo o x) e y)
 
 -- ---- the walk
 
-pub record IsWalking (heads passes : Item → Bool) (all left : List Item) (best : Option Rank) (was now : ℕ) : Type 0 where
-  pub first : joined best (least_rank (λ i. heads i && passes i) left) ≡ least_rank (λ i. heads i && passes i) all
-  pub asked : now + length (filter heads left) ≤ was + length (filter heads all)
-  pub starts : AllByRecursion (λ (i : Item). IsStart i.start) left
+-- the keys that aren't within the best so far have entries among those that are left
+pub record IsWalking (open_at : ℕ → Bool) (keys : List (ℕ × ℕ × ℕ)) (best : Option (ℕ × ℕ)) (left : List (ℕ × ℕ × ℕ)) : Type 0 where
+  pub sound : IsSound open_at keys best
+  pub sorted : IsStrictlySortedBy key_cmp left
+  pub covers : (g s n : ℕ) → has keys g s n ≡ true → open_at n ≡ true → IsUpTo best (s, n) ⊎ IsLed left g s n
 
-pub walking_start : (heads passes : Item → Bool) (all left : List Item) (was : ℕ) → left ≡ all → AllByRecursion (λ (i : Item). IsStart i.start) all → IsWalking heads passes all left None was was
-walking_start heads passes all left was e s = subst (λ l. IsWalking heads passes all l None was was) (sym e) (record { first = refl; asked = omega arith; starts = s })
+pub walking_start : (open_at : ℕ → Bool) (keys entries : List (ℕ × ℕ × ℕ)) → IsStrictlySortedBy key_cmp entries → Lead entries keys → IsWalking open_at keys None entries
+walking_start open_at keys entries s l = record { sound = tt; sorted = s; covers = λ g u m h o. inr (l g u m h) }
 
-count_more : (b : Bool) (n m x : ℕ) (xs : List Item) (e : Item) → n + length (cond b (e ∷ xs) xs) ≤ x → m ≤ n + cond b 1 0 → m + length xs ≤ x
-count_more true n m x xs e h k = omega (arith, h, k)
-count_more false n m x xs e h k = omega (arith, h, k)
+pub walking_end : (open_at : ℕ → Bool) (keys : List (ℕ × ℕ × ℕ)) (best : Option (ℕ × ℕ)) → IsWalking open_at keys best [] → IsLeastOpen open_at keys best
+unfolding has
+walking_end open_at keys best w = record {
+  sound = w.sound;
+  least = λ g s n h o. elim (w.covers g s n h o) [ inl y ↦ y | inr l ↦ absurd (let no : false ≡ true = l.2 in cc) ];
+}
 
-pub walking_on : (heads passes : Item → Bool) (all left : List Item) (e : Item) (rest : List Item) (best new : Option Rank) (was now next : ℕ) → IsWalking heads passes all left best was now → left ≡ e ∷ rest
-    → IsStep heads passes e best new now next → IsWalking heads passes all rest new was next
-unfolding least_rank
-walking_on heads passes all left e rest best new was now next w h s =
-    let v = subst (λ l. IsWalking heads passes all l best was now) h w in
-    record {
-      first = ap (λ b. joined b (least_rank (λ i. heads i && passes i) rest)) s.0 ∙ by_test (heads e && passes e) ∙ v.first;
-      asked = count_more (heads e) now next (was + length (filter heads all)) (filter heads rest) e v.asked s.1;
-      starts = v.starts.1;
-    }
+-- an entry is the first or one of the others
+first_or : (p m g a b c : ℕ) (left : List (ℕ × ℕ × ℕ)) → has ((p, m, g) ∷ left) a b c ≡ true → ((a ≡ p) × (b ≡ m) × (c ≡ g)) ⊎ (has left a b c ≡ true)
+unfolding has
+first_or p m g a b c left h = by_test (is_at (key_cmp (a, b, c)) (p, m, g)) refl h
   where
-    by_test : (b : Bool) → joined (cond b (joined best (Some (rank e))) best) (least_rank (λ i. heads i && passes i) rest)
-        ≡ joined best (cond b (joined (Some (rank e)) (least_rank (λ i. heads i && passes i) rest)) (least_rank (λ i. heads i && passes i) rest))
-    by_test true = joined_joined best (rank e) (least_rank (λ i. heads i && passes i) rest)
-    by_test false = refl
+    equal : is_at (key_cmp (a, b, c)) (p, m, g) ≡ true → (a ≡ p) × (b ≡ m) × (c ≡ g)
+    equal e = (grind (arith, nat_tests), grind (arith, nat_tests), grind (arith, nat_tests))
 
-pub walking_end : (heads passes : Item → Bool) (all left : List Item) (best : Option Rank) (was now : ℕ) → IsWalking heads passes all left best was now → left ≡ []
-    → (best ≡ least_rank (λ i. heads i && passes i) all) × (now ≤ was + length (filter heads all))
-unfolding least_rank
-walking_end heads passes all left best was now w h =
-    let v = subst (λ l. IsWalking heads passes all l best was now) h w in
-    (sym (joined_none best) ∙ v.first, (let a = v.asked in omega (arith, a)))
+    by_test : (t : Bool) → is_at (key_cmp (a, b, c)) (p, m, g) ≡ t → (t || list_any (is_at (key_cmp (a, b, c))) left) ≡ true → ((a ≡ p) × (b ≡ m) × (c ≡ g)) ⊎ (list_any (is_at (key_cmp (a, b, c))) left ≡ true)
+    by_test true e h = inl (equal e)
+    by_test false e h = inr h
 
-pub start_of : (heads passes : Item → Bool) (all left : List Item) (e : Item) (rest : List Item) (best : Option Rank) (was now : ℕ) → IsWalking heads passes all left best was now → left ≡ e ∷ rest → IsStart e.start
-start_of heads passes all left e rest best was now w h = (subst (AllByRecursion (λ (i : Item). IsStart i.start)) h w.starts).0
-
--- ---- the next moment
-
-sooner_sooner : (a b c : Option ℕ) → sooner (sooner a b) c ≡ sooner a (sooner b c)
-sooner_sooner None b c = refl
-sooner_sooner (Some a) None c = refl
-sooner_sooner (Some a) (Some b) None = refl
-sooner_sooner (Some a) (Some b) (Some c) = ap Some (least_three a b c)
+walking_more : (open_at : ℕ → Bool) (keys : List (ℕ × ℕ × ℕ)) (best new : Option (ℕ × ℕ)) (p m g : ℕ) (left : List (ℕ × ℕ × ℕ))
+    → IsWalking open_at keys best ((p, m, g) ∷ left) → IsLooked open_at keys g best new → IsWalking open_at keys new left
+walking_more open_at keys best new p m g left w k = record {
+  sound = k.sound w.sound;
+  sorted = sorted_tail key_cmp (p, m, g) left w.sorted;
+  covers = λ h s n e o. covered h s n e o (w.covers h s n e o);
+}
   where
-    least_three : (a b c : ℕ) → min (min a b) c ≡ min a (min b c)
-    least_three a b c = omega arith
+    at_entry : (h s n a b : ℕ) → has keys h s n ≡ true → open_at n ≡ true → at_most (a, b) (s, n) ≡ true → ((a ≡ p) × (b ≡ m) × (h ≡ g)) ⊎ (has left a b h ≡ true) → IsUpTo new (s, n) ⊎ IsLed left h s n
+    at_entry h s n a b e o le (inl q) = inl (k.within s n (subst (λ x. has keys x s n ≡ true) q.2 e) o)
+    at_entry h s n a b e o le (inr q) = inr (a, b, q, le)
 
-sooner_none : (a : Option ℕ) → sooner a None ≡ a
-sooner_none None = refl
-sooner_none (Some a) = refl
+    covered : (h s n : ℕ) → has keys h s n ≡ true → open_at n ≡ true → IsUpTo best (s, n) ⊎ IsLed ((p, m, g) ∷ left) h s n → IsUpTo new (s, n) ⊎ IsLed left h s n
+    covered h s n e o (inl y) = inl (k.kept (s, n) y)
+    covered h s n e o (inr l) = at_entry h s n l.0 l.1 e o l.3 (first_or p m g l.0 l.1 h left l.2)
 
-pub record IsNext (issues : List IssueEntry) (entries : List StartEntry) (t : ℕ) (all left : List Item) (next : Option ℕ) : Type 0 where
-  pub least : sooner next (next_item issues entries t left) ≡ next_item issues entries t all
-  pub starts : AllByRecursion (λ (i : Item). IsStart i.start) left
+less_first : (p m g x y z : ℕ) → key_cmp (p, m, g) (x, y, z) ≡ Less → at_most (p, m) (x, y) ≡ true
+unfolding at_most
+less_first p m g x y z h = grind (arith, nat_tests)
 
-pub next_start : (issues : List IssueEntry) (entries : List StartEntry) (t : ℕ) (all left : List Item) → left ≡ all → AllByRecursion (λ (i : Item). IsStart i.start) all → IsNext issues entries t all left None
-next_start issues entries t all left e s = subst (λ l. IsNext issues entries t all l None) (sym e) (record { least = refl; starts = s })
-
-pub next_on : (issues : List IssueEntry) (entries : List StartEntry) (t : ℕ) (all left : List Item) (e : Item) (rest : List Item) (next new : Option ℕ) → IsNext issues entries t all left next → left ≡ e ∷ rest
-    → new ≡ sooner next (moment_of issues entries t e) → IsNext issues entries t all rest new
-unfolding next_item
-next_on issues entries t all left e rest next new n h s =
-    let m = subst (λ l. IsNext issues entries t all l next) h n in
-    record {
-      least = ap (λ o. sooner o (next_item issues entries t rest)) s ∙ sooner_sooner next (moment_of issues entries t e) (next_item issues entries t rest) ∙ m.least;
-      starts = m.starts.1;
-    }
-
-pub next_end : (issues : List IssueEntry) (entries : List StartEntry) (t : ℕ) (all left : List Item) (next : Option ℕ) → IsNext issues entries t all left next → left ≡ [] → next ≡ next_item issues entries t all
-unfolding next_item
-next_end issues entries t all left next n h =
-    let m = subst (λ l. IsNext issues entries t all l next) h n in
-    sym (sooner_none next) ∙ m.least
-
-pub next_start_of : (issues : List IssueEntry) (entries : List StartEntry) (t : ℕ) (all left : List Item) (e : Item) (rest : List Item) (next : Option ℕ) → IsNext issues entries t all left next → left ≡ e ∷ rest → IsStart e.start
-next_start_of issues entries t all left e rest next n h = (subst (AllByRecursion (λ (i : Item). IsStart i.start)) h n.starts).0
-
--- ---- the map
-
-by_number : InsertsByNumber number_of insert_item
-by_number = record { empty = λ x. refl; place = λ x y ys. refl }
-
-abbrev HasStart : Item → Type 0
-HasStart i = IsStart i.start
-
-all_put : (x : Item) (xs : List Item) → HasStart x → AllByRecursion HasStart xs → AllByRecursion HasStart (insert_item x xs)
-all_put x [] h all = (h, tt)
-all_put x (y ∷ ys) h all = by_place (nat_lt x.number y.number) (all_put x ys h all.1)
+-- all entries of a list that is in order come no earlier than its first
+before_all : (p m g a b c : ℕ) (left : List (ℕ × ℕ × ℕ)) → AllByRecursion (λ q. key_cmp (p, m, g) q ≡ Less) left → has left a b c ≡ true → at_most (p, m) (a, b) ≡ true
+unfolding has
+before_all p m g a b c [] s h = absurd (let no : false ≡ true = h in cc)
+before_all p m g a b c ((x, y, z) ∷ left) s h = by_case (first_or x y z a b c left h) (before_all p m g a b c left s.1)
   where
-    by_place : (b : Bool) → AllByRecursion HasStart (insert_item x ys) → AllByRecursion HasStart (cond b (x ∷ y ∷ ys) (y ∷ insert_item x ys))
-    by_place true more = (h, all)
-    by_place false more = (all.0, more)
+    here : (a ≡ x) × (b ≡ y) → at_most (p, m) (a, b) ≡ true
+    here e = subst (λ q. at_most (p, m) q ≡ true) (sym (ap₂ (λ x y. (x, y)) e.0 e.1)) (less_first p m g x y z s.0)
 
-pub queue_empty : (pairs : List (ℕ × Item)) → pairs ≡ [] → IsQueue pairs
-queue_empty pairs e = subst IsQueue (sym e) (record { stored = stored_empty nat_cmp number_of [] refl; starts = tt })
+    by_case : ((a ≡ x) × (b ≡ y) × (c ≡ z)) ⊎ (list_any (is_at (key_cmp (a, b, c))) left ≡ true) → (list_any (is_at (key_cmp (a, b, c))) left ≡ true → at_most (p, m) (a, b) ≡ true) → at_most (p, m) (a, b) ≡ true
+    by_case (inl e) more = here (e.0, e.1)
+    by_case (inr e) more = more e
 
-pub queue_put : (old new : List (ℕ × Item)) (x : Item) → IsQueue old → find (has_number x.number) (values_of old) ≡ None → IsStart x.start → new ≡ insert_entry nat_cmp old x.number x
-    → IsStrictlySortedBy nat_cmp (keys_of new) → (values_of new ≡ insert_item x (values_of old)) × IsQueue new
-queue_put old new x q none h e s =
-    let put = numbered_put number_of by_number old new x q.stored none e s in
-    (put.0, record { stored = put.1; starts = subst (AllByRecursion HasStart) (sym put.0) (all_put x (values_of old) h q.starts) })
-
-pub queue_left : (old new : List (ℕ × Item)) (n : ℕ) → IsQueue old → new ≡ remove_entry (is_at (nat_cmp n)) old → IsStrictlySortedBy nat_cmp (keys_of new)
-    → (values_of new ≡ without_number n (values_of old)) × IsQueue new
-queue_left old new n q e s =
-    let left = numbered_left number_of old new n q.stored e s in
-    (left.0, record { stored = left.1; starts = subst (AllByRecursion HasStart) (sym left.0) (all-filter HasStart (λ i. not (has_number n i)) (values_of old) q.starts) })
-
-filter_keyed : (p : Item → Bool) (es : List Item) → filter (λ (e : ℕ × Item). p e.1) (keyed nat_cmp number_of es) ≡ keyed nat_cmp number_of (filter p es)
-filter_keyed p [] = refl
-filter_keyed p (e ∷ es) = by_test (p e) (filter_keyed p es)
+-- where the best comes no later than the next entry, the walk may stop
+walking_first : (open_at : ℕ → Bool) (keys : List (ℕ × ℕ × ℕ)) (b : ℕ × ℕ) (p m g : ℕ) (left : List (ℕ × ℕ × ℕ))
+    → IsWalking open_at keys (Some b) ((p, m, g) ∷ left) → at_most b (p, m) ≡ true → IsLeastOpen open_at keys (Some b)
+walking_first open_at keys b p m g left w le = record {
+  sound = w.sound;
+  least = λ h s n e o. elim (w.covers h s n e o) [ inl y ↦ y | inr l ↦ at_most_trans b (p, m) (s, n) le (from h s n l (first_or p m g l.0 l.1 h left l.2)) ];
+}
   where
-    by_test : (b : Bool) → filter (λ (r : ℕ × Item). p r.1) (keyed nat_cmp number_of es) ≡ keyed nat_cmp number_of (filter p es)
-        → cond b ((e.number, e) ∷ filter (λ (r : ℕ × Item). p r.1) (keyed nat_cmp number_of es)) (filter (λ (r : ℕ × Item). p r.1) (keyed nat_cmp number_of es))
-        ≡ keyed nat_cmp number_of (cond b (e ∷ filter p es) (filter p es))
-    by_test true more = ap (λ r. (e.number, e) ∷ r) more
-    by_test false more = more
+    from : (h s n : ℕ) (l : IsLed ((p, m, g) ∷ left) h s n) → ((l.0 ≡ p) × (l.1 ≡ m) × (h ≡ g)) ⊎ (has left l.0 l.1 h ≡ true) → at_most (p, m) (s, n) ≡ true
+    from h s n l (inl e) = subst (λ x. at_most x (s, n) ≡ true) (ap₂ (λ x y. (x, y)) e.0 e.1) l.3
+    from h s n l (inr e) = at_most_trans (p, m) (l.0, l.1) (s, n) (before_all p m g l.0 l.1 h left (sorted_head key_cmp (p, m, g) left w.sorted) e) l.3
 
-pub queue_kept : (p : Item → Bool) (old new : List (ℕ × Item)) → IsQueue old → new ≡ filter (λ (e : ℕ × Item). p e.1) old → IsStrictlySortedBy nat_cmp (keys_of new)
-    → (values_of new ≡ filter p (values_of old)) × IsQueue new
-queue_kept p old new q e s =
-    let left = stored_from nat_cmp number_of new (filter p (values_of old)) (e ∙ ap (filter (λ (r : ℕ × Item). p r.1)) q.stored.keyed ∙ filter_keyed p (values_of old)) s in
-    (left.0, record { stored = left.1; starts = subst (AllByRecursion HasStart) (sym left.0) (all-filter HasStart p (values_of old) q.starts) })
+stop_some : (open_at : ℕ → Bool) (keys : List (ℕ × ℕ × ℕ)) (best : Option (ℕ × ℕ)) (e : ℕ × ℕ × ℕ) (left : List (ℕ × ℕ × ℕ))
+    → IsWalking open_at keys best (e ∷ left) → stops best (e.0, e.1) ≡ true → IsLeastOpen open_at keys best
+stop_some open_at keys None e left w h = absurd (let no : false ≡ true = h in cc)
+stop_some open_at keys (Some b) e left w h = walking_first open_at keys b e.0 e.1 e.2 left w h
+
+pub walking_stop : (open_at : ℕ → Bool) (keys : List (ℕ × ℕ × ℕ)) (best : Option (ℕ × ℕ)) (e : ℕ × ℕ × ℕ) (all left : List (ℕ × ℕ × ℕ))
+    → IsWalking open_at keys best all → all ≡ e ∷ left → stops best (e.0, e.1) ≡ true → IsLeastOpen open_at keys best
+walking_stop open_at keys best e all left w is h = stop_some open_at keys best e left (subst (λ (l : List (ℕ × ℕ × ℕ)). IsWalking open_at keys best l) is w) h
+
+pub walking_on : (open_at : ℕ → Bool) (keys : List (ℕ × ℕ × ℕ)) (best new : Option (ℕ × ℕ)) (e : ℕ × ℕ × ℕ) (all left : List (ℕ × ℕ × ℕ))
+    → IsWalking open_at keys best all → all ≡ e ∷ left → IsLooked open_at keys e.2 best new → IsWalking open_at keys new left
+walking_on open_at keys best new e all left w is k = walking_more open_at keys best new e.0 e.1 e.2 left (subst (λ (l : List (ℕ × ℕ × ℕ)). IsWalking open_at keys best l) is w) k
+
+pub walking_done : (open_at : ℕ → Bool) (keys : List (ℕ × ℕ × ℕ)) (best : Option (ℕ × ℕ)) (all : List (ℕ × ℕ × ℕ)) → IsWalking open_at keys best all → all ≡ [] → IsLeastOpen open_at keys best
+walking_done open_at keys best all w is = walking_end open_at keys best (subst (λ (l : List (ℕ × ℕ × ℕ)). IsWalking open_at keys best l) is w)
+
+-- an entry's look is paid by what is left
+pub fewer : (was now start most : ℕ) (e : ℕ × ℕ × ℕ) (all left : List (ℕ × ℕ × ℕ)) → was + length all ≤ start + most → all ≡ e ∷ left → now ≤ was + 1 → now + length left ≤ start + most
+fewer was now start most e all left h is one = let n = ap length is in grind arith
+
+-- where the best comes no later than a group's least, a look changes nothing
+pub looked_stop : (open_at : ℕ → Bool) (keys : List (ℕ × ℕ × ℕ)) (g : ℕ) (best : Option (ℕ × ℕ)) (h : ℕ × ℕ) → IsHeadAt keys g h → stops best h ≡ true → IsLooked open_at keys g best best
+looked_stop open_at keys g None h head e = absurd (let no : false ≡ true = e in cc)
+looked_stop open_at keys g (Some b) h head e = looked_no_better open_at keys g b h head e
+
+pub kept_past : (best : Option (ℕ × ℕ)) (h : ℕ × ℕ) → stops best h ≡ false → (x : ℕ × ℕ) → IsUpTo best x → at_most h x ≡ true
+kept_past None h f x y = absurd y
+kept_past (Some b) h f x y = at_most_trans h b x (at_most_other b h f) y

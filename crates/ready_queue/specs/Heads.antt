@@ -29,7 +29,7 @@ unfoldable pub least_rank : (Item → Bool) → List Item → Option (ℤ × ℕ
 least_rank passes [] = None
 least_rank passes (i ∷ is) = if passes i then joined (Some (rank i)) (least_rank passes is) else least_rank passes is
 
-abbrev pub second : Option (ℤ × ℕ) → Option ℕ
+abbrev pub second : {A : Type 0} → Option (A × ℕ) → Option ℕ
 second None = None
 second (Some b) = Some b.1
 

@@ -1,2 +1,9 @@
+pub mod Different
 pub mod Heads
-pub mod Queue
+pub mod Held
+pub mod Keys
+pub mod Opens
+pub mod Places
+pub mod Pool
+pub mod Runs
+pub mod Store

@@ -10,6 +10,7 @@ use throttle::Starts;
 
 /// The gate of a server: open where none of the cells is full, and the throttle, where there is one, lets a
 /// run start at the moment.
+#[derive(Drop)]
 pub struct Admission<'a> {
     pub cells: &'a ConcurrencyKeys,
     pub throttle: &'a Starts,

@@ -1,10 +1,12 @@
-ghost use Rattle.std.specs.Prelude.{◌≡◌, ◌≤◌, nat_le, ◌&&◌};
+ghost use Rattle.std.specs.Prelude.{◌≡◌, ◌≤◌, nat_le, ◌&&◌, IfOk};
 ghost use Rattle.std.specs.BTreeMap.{values};
 ghost use Rattle.std.specs.Ordering.{is_lt};
-ghost use Rattle.kinds.specs.Queue.{item_cmp, same_group};
+ghost use Rattle.kinds.specs.Queue.{item_cmp, same_group, group_of};
 ghost use Rattle.ready_queue.specs.Heads.{has_lesser};
+ghost use Rattle.ready_queue.specs.Store.{IsScore, lifted};
 
-use kinds::Item;
+use kinds::{Cell, CellLimits, Item};
+use lists::Memory;
 use std::collections::BTreeMap;
 
 /// The first comes before the second.
@@ -28,4 +30,41 @@ pub(crate) fn has_lesser(items: &BTreeMap<u64, Item>, item: &Item, t: u64) -> bo
 {
     items.values().any(|other| other.due <= t
         && (comes_before(other, item) && same_group(other, item)))
+}
+
+/// An item's score, counted from the least that there is.
+#[tactic(auto, unfolding(crate::specs::Store::lifted))]
+pub(crate) fn lifted(item: &Item) -> u64
+    ensures value { result ≡ lifted item.now.score }
+    ensures sound { IsScore item.now.score }
+{
+    item.score.abs_diff(i64::MIN)
+}
+
+/// The cells with limits and the start of the items of a group.
+pub(crate) type Group = (CellLimits, Option<Cell>);
+
+fn copy_of_start(start: &Option<Cell>) -> Result<Option<Cell>, Memory>
+    ensures { IfOk result (λ copy. copy ≡ start.now) }
+{
+    match start {
+        Some(cell) => Ok(Some(cell.clone()?)),
+        None => Ok(None),
+    }
+}
+
+pub(crate) fn copy_of(group: &Group) -> Result<Group, Memory>
+    ensures { IfOk result (λ copy. copy ≡ group.now) }
+{
+    let cells = group.0.clone()?;
+    let start = copy_of_start(&group.1)?;
+    Ok((cells, start))
+}
+
+pub(crate) fn group_of(item: &Item) -> Result<Group, Memory>
+    ensures { IfOk result (λ group. group ≡ group_of item.now) }
+{
+    let cells = item.cells.clone()?;
+    let start = copy_of_start(&item.start)?;
+    Ok((cells, start))
 }

@@ -4,10 +4,16 @@
 
 mod admission;
 mod entries;
+mod fronts;
 mod gate;
+mod index;
 mod item;
 mod moment;
+mod pool;
 mod queue;
+mod ready;
+mod scan;
+mod store;
 mod walk;
 
 pub use admission::Admission;

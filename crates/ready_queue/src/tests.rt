@@ -30,6 +30,7 @@ fn items_come_and_go(rt: HostRuntime) -> Result<(), Fail> {
         cells: Items::new(rt.alloc()),
         start: None,
     })?;
+    queue.pass(5)?;
     assert_eq!(rt; queue.next(0, &keys, &starts), Some(5));
     assert_eq!(rt; queue.next(5, &keys, &starts), Some(9));
     assert_eq!(rt; queue.next(9, &keys, &starts), None);

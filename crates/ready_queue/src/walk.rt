@@ -1,91 +1,122 @@
-ghost use Rattle.std.specs.Prelude.{◌≡◌, ◌+◌, ◌≤◌, length, filter, ◌&&◌};
-ghost use Rattle.std.specs.BTreeMap.{values};
-ghost use Rattle.std.specs.Bool.{OnTrue, OnFalse};
-ghost use Rattle.std.specs.List.{AllByRecursion};
+ghost use Rattle.std.specs.Prelude.{◌≡◌, ◌+◌, ◌≤◌, ℕ, length, Some};
+ghost use Rattle.std.specs.BTreeMap.{is_at};
+ghost use Rattle.std.specs.List.Sorted.{IsStrictlySortedBy};
+ghost use Rattle.std.specs.Map.{lookup};
+ghost use Rattle.std.specs.Ordering.{nat_cmp};
 ghost use Rattle.kinds.specs.Cells.{IsStart, last_moment};
-ghost use Rattle.kinds.specs.Queue.{is_admissible};
-ghost use Rattle.kinds.specs.declared.store.Item.{Item};
-ghost use Rattle.ready_queue.specs.Heads.{leads, joined, rank, least_rank, second, IsStep};
+ghost use Rattle.ready_queue.specs.Keys.{key_cmp, at_most, stops, IsHead, IsLooked, IsLeastOpen, AreAlike, Lead};
+ghost use Rattle.ready_queue.specs.Opens.{opens, HaveStarts};
 
 use crate::Gate;
-use crate::item::has_lesser;
 use kinds::{Item, Steps};
-use std::collections::BTreeMap;
+use std::collections::{BTreeMap, BTreeSet};
 use std::sync::ledger::Ledger;
 
-fn rank_of(item: &Item) -> (i64, u64)
-    ensures { result ≡ rank item.now }
+/// The first (score, number) isn't after the second.
+#[tactic(auto, unfolding(crate::specs::Keys::at_most))]
+pub(crate) fn comes_first(a: (u64, u64), b: (u64, u64)) -> bool
+    ensures { result ≡ at_most a b }
 {
-    (item.score, item.number)
+    a.0 < b.0 || a.0 == b.0 && a.1 <= b.1
 }
 
-/// What was found so far comes no later than the item.
-fn stops(best: Option<(i64, u64)>, item: &Item) -> bool
-    ensures stops { OnTrue result (joined best (Some (rank item.now)) ≡ best) }
-    ensures goes_on { OnFalse result (joined best (Some (rank item.now)) ≡ Some (rank item.now)) }
+/// Nothing from this entry on comes before what was found.
+fn stops(best: Option<(u64, u64)>, entry: (u64, u64)) -> bool
+    ensures { result ≡ stops best entry }
 {
     match best {
-        Some((score, number)) => !score
-            .cmp(&item.score)
-            .then(number.cmp(&item.number))
-            .is_gt(),
+        Some(other) => comes_first(other, entry),
         None => false,
     }
 }
 
-/// The first of the best so far and an item, where this is due, first of its group, and the gate is open.
-fn step<G: Gate, L: Ledger>(
+/// The least (score, number) of a group.
+pub(crate) fn head(keys: &BTreeSet<(u64, u64, u64)>, group: u64) -> Option<(u64, u64)>
+    ensures { IsHead keys.now.keys group result }
+{
+    let Some(first) = keys.range((group, 0, 0)..).next() else {
+        return None;
+    };
+    let (found, score, number) = *first;
+    if found == group {
+        Some((score, number))
+    } else {
+        None
+    }
+}
+
+/// The gate is open for the item of this number.
+fn is_open<G: Gate, L: Ledger>(
     items: &BTreeMap<u64, Item>,
-    item: &Item,
-    best: Option<(i64, u64)>,
+    number: u64,
     t: u64,
     gate: &G,
     steps: &mut Steps<L>,
-) -> Option<(i64, u64)>
-    requires start { IsStart item.now.start }
+) -> bool
+    requires starts { HaveStarts items.now.entries }
     requires moment { t ≤ last_moment }
-    ensures { IsStep (leads t (values items.now)) (is_admissible (G.is_open gate.now t) t) item.now best result steps.old steps.new }
+    ensures told { result ≡ opens (G.is_open gate.now t) items.now.entries number }
+    ensures asked { steps.new ≤ steps.old + 1 }
 {
-    if item.due > t {
+    match items.get(&number) {
+        Some(item) => gate.open(&item.cells, item.start.as_ref(), t, steps),
+        None => false,
+    }
+}
+
+/// The first of the best so far and of the head of a group, where the gate is open for it.
+fn look<G: Gate, L: Ledger>(
+    items: &BTreeMap<u64, Item>,
+    keys: &BTreeSet<(u64, u64, u64)>,
+    group: u64,
+    best: Option<(u64, u64)>,
+    t: u64,
+    gate: &G,
+    steps: &mut Steps<L>,
+) -> Option<(u64, u64)>
+    requires alike { AreAlike (opens (G.is_open gate.now t) items.now.entries) keys.now.keys }
+    requires starts { HaveStarts items.now.entries }
+    requires moment { t ≤ last_moment }
+    ensures looked { IsLooked (opens (G.is_open gate.now t) items.now.entries) keys.now.keys group best result }
+    ensures asked { steps.new ≤ steps.old + 1 }
+{
+    let Some(least) = head(keys, group) else {
+        return best;
+    };
+    if stops(best, least) {
         return best;
     }
-    if stops(best, item) {
-        return best;
-    }
-    if has_lesser(items, item, t) {
-        return best;
-    }
-    if gate.open(&item.cells, item.start.as_ref(), t, steps) {
-        Some(rank_of(item))
+    if is_open(items, least.1, t, gate, steps) {
+        Some(least)
     } else {
         best
     }
 }
 
-/// The first of the due items for which the gate is open. It is asked for the first due item of each group.
+/// The least key for whose item the gate is open: the groups in order of their places, one look at each.
 pub(crate) fn least_open<G: Gate, L: Ledger>(
     items: &BTreeMap<u64, Item>,
+    keys: &BTreeSet<(u64, u64, u64)>,
+    places: &BTreeSet<(u64, u64, u64)>,
     t: u64,
     gate: &G,
     steps: &mut Steps<L>,
-) -> Option<(i64, u64)>
-    requires starts { AllByRecursion (λ (i : Item). IsStart i.start) (values items.now) }
+) -> Option<(u64, u64)>
+    requires alike { AreAlike (opens (G.is_open gate.now t) items.now.entries) keys.now.keys }
+    requires starts { HaveStarts items.now.entries }
     requires moment { t ≤ last_moment }
-    ensures least { result ≡ least_rank (λ i. leads t (values items.now) i && is_admissible (G.is_open gate.now t) t i) (values items.now) }
-    ensures asked { steps.new ≤ steps.old + length (filter (leads t (values items.now)) (values items.now)) }
+    requires lead { Lead places.now.keys keys.now.keys }
+    ensures least { IsLeastOpen (opens (G.is_open gate.now t) items.now.entries) keys.now.keys result }
+    ensures asked { steps.new ≤ steps.old + length places.now.keys }
+    ensures ordered { IsStrictlySortedBy key_cmp places.now.keys }
 {
-    let mut best: Option<(i64, u64)> = None;
-    for item in items.values() {
-        best = step(items, item, best, t, gate, steps);
+    let mut best: Option<(u64, u64)> = None;
+    for entry in places {
+        let (score, number, group) = *entry;
+        if stops(best, (score, number)) {
+            return best;
+        }
+        best = look(items, keys, group, best, t, gate, steps);
     }
     best
-}
-
-pub(crate) fn second(best: Option<(i64, u64)>) -> Option<u64>
-    ensures { result ≡ second best }
-{
-    match best {
-        Some((_, number)) => Some(number),
-        None => None,
-    }
 }

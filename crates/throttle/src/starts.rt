@@ -1,5 +1,6 @@
-ghost use Rattle.std.specs.Prelude.{◌≡◌, ◌≤◌, ◌∷◌, ◌++◌, ℕ, List, [], true, find, None, OnOk, OnErr, nat_le};
-ghost use Rattle.kinds.specs.Cells.{IsThrottle, last_moment, spacing, slack, lets_start, has_start, greatest_at, is_allowed, release_moment, put_start, after_start, later_starts, StandsFor};
+ghost use Rattle.std.specs.Prelude.{◌≡◌, ◌≤◌, ℕ, [], true, find, None, OnOk, OnErr, nat_le};
+ghost use Rattle.kinds.specs.Cells.{IsThrottle, last_moment, spacing, slack, has_start, greatest_at, is_allowed, release_moment, after_start, later_starts};
+ghost use Rattle.throttle.specs.Inequality.{FollowsInequality, StandsForOneMore, put_greatest};
 
 use crate::Entries;
 use kinds::{Cell, StartEntry};
@@ -89,7 +90,7 @@ impl Starts {
         requires throttle { IsThrottle cell.now }
         requires moment { t ≤ last_moment }
         ensures allowed { result ≡ is_allowed cell.now t self.now }
-        ensures inequality { (starts : List ℕ) → StandsFor self.now cell.now starts → result ≡ lets_start cell.now starts t }
+        ensures inequality { FollowsInequality self.now cell.now t result }
     {
         self.greatest(cell) <= t + pace_of(cell).slack
     }
@@ -109,7 +110,7 @@ impl Starts {
         requires moment { t ≤ last_moment }
         requires allowed { is_allowed cell.now t self.old ≡ true }
         ensures ok { OnOk result (self.new ≡ after_start cell.now t self.old) }
-        ensures stands { OnOk result ((starts : List ℕ) → StandsFor self.old cell.now starts → StandsFor self.new cell.now (starts ++ t ∷ [])) }
+        ensures stands { OnOk result (StandsForOneMore self.old self.new cell.now t) }
         ensures err { OnErr result (self.new ≡ self.old) }
     {
         let greatest = self.greatest(cell).max(t) + pace_of(cell).spacing;
@@ -122,7 +123,7 @@ impl Starts {
         requires throttle { IsThrottle cell.now }
         requires fresh { find (has_start cell.now) self.old ≡ None }
         requires started { spacing cell.now ≤ greatest }
-        ensures ok { OnOk result (self.new ≡ put_start (record { cell = cell.now; greatest = greatest }) self.old) }
+        ensures ok { OnOk result (self.new ≡ put_greatest cell.now greatest self.old) }
         ensures err { OnErr result (self.new ≡ self.old) }
     {
         self.put(cell, greatest)?;
@@ -131,7 +132,7 @@ impl Starts {
 
     // Gives a cell a greatest, in place of the one that it has.
     fn put(&mut self, cell: &Cell, greatest: u64) -> Result<(), Memory>
-        ensures ok { OnOk result (self.new ≡ put_start (record { cell = cell.now; greatest = greatest }) self.old) }
+        ensures ok { OnOk result (self.new ≡ put_greatest cell.now greatest self.old) }
         ensures err { OnErr result (self.new ≡ self.old) }
     {
         let key = cell.clone()?;

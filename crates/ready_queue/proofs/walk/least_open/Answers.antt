@@ -1,32 +1,20 @@
-use Rattle.std.proofs.Common.{◌∙◌}
-use Rattle.std.specs.BTreeMap.{values}
-use Rattle.kinds.specs.Queue.{is_admissible}
-use Rattle.ready_queue.specs.Heads.{leads}
-use Rattle.ready_queue.proofs.WalkLemmas.{walking_start, walking_on, walking_end}
+use Rattle.std.proofs.Common.{ℕ, sym, ◌∙◌}
+use Rattle.ready_queue.specs.Opens.{opens}
+use Rattle.ready_queue.proofs.WalkLemmas.{walking_on, walking_done, walking_stop, fewer}
 use Rattle.ready_queue.proofs.walk.least_open.Goals as goal
 
-pub loop-item-init : goal.loop-item-init
-loop-item-init g c = (
-  tt,
-  tt,
-  walking_start (leads c.args.t (values c.args.items.now)) (is_admissible (g.G.Gate.is_open c.args.gate.now c.args.t) c.args.t) (values c.args.items.now) _ c.args.steps.now
-      (c.into_iter-item-iterator.ensures.into_iter_gives ∙ c.values-item-items.ensures.rest) c.requires.starts,
-)
+pub returns-then-stops-clause-least : goal.returns-then-stops-clause-least
+returns-then-stops-clause-least g c =
+    walking_stop (opens (g.G.Gate.is_open c.args.gate.now c.args.t) c.args.items.now.entries) c.args.keys.now.keys _ _ _ _ c.loop-entry.invariant.2 c.in-Some.ensures.steps (sym c.stops.ensures ∙ c.if-stops.true)
 
-pub loop-item-preserved : goal.loop-item-preserved
-loop-item-preserved g c = (
+pub loop-entry-preserved : goal.loop-entry-preserved
+loop-entry-preserved g c = (
   tt,
   tt,
-  walking_on (leads c.args.t (values c.args.items.now)) (is_admissible (g.G.Gate.is_open c.args.gate.now c.args.t) c.args.t) (values c.args.items.now) _ c.in-Some.item.now _ c.loop-item.best c.step-best.result c.args.steps.now
-      c.loop-item.steps c.step-best.new.steps c.loop-item.invariant.2 c.in-Some.ensures.steps c.step-best.ensures,
+  walking_on (opens (g.G.Gate.is_open c.args.gate.now c.args.t) c.args.items.now.entries) c.args.keys.now.keys c.loop-entry.best _ _ _ _ c.loop-entry.invariant.2 c.in-Some.ensures.steps c.look-best.ensures.looked,
+  fewer c.loop-entry.steps _ _ _ _ _ _ c.loop-entry.invariant.3 c.in-Some.ensures.steps c.look-best.ensures.asked,
 )
 
 pub returns-clause-least : goal.returns-clause-least
 returns-clause-least g c =
-    (walking_end (leads c.args.t (values c.args.items.now)) (is_admissible (g.G.Gate.is_open c.args.gate.now c.args.t) c.args.t) (values c.args.items.now) _ c.loop-item.best c.args.steps.now c.loop-item.steps
-    c.loop-item.invariant.2 c.in-None.ensures.steps.0).0
-
-pub returns-clause-asked : goal.returns-clause-asked
-returns-clause-asked g c =
-    (walking_end (leads c.args.t (values c.args.items.now)) (is_admissible (g.G.Gate.is_open c.args.gate.now c.args.t) c.args.t) (values c.args.items.now) _ c.loop-item.best c.args.steps.now c.loop-item.steps
-    c.loop-item.invariant.2 c.in-None.ensures.steps.0).1
+    walking_done (opens (g.G.Gate.is_open c.args.gate.now c.args.t) c.args.items.now.entries) c.args.keys.now.keys c.loop-entry.best _ c.loop-entry.invariant.2 c.in-None.ensures.steps.0

@@ -1,16 +1,18 @@
-use Rattle.std.proofs.Common.{◌∙◌, ap}
+use Rattle.std.proofs.Common.{refl, ◌∙◌, ap}
+use Rattle.std.proofs.lemmas.Cmp.{nat_cmp_total}
 use Rattle.std.specs.List.{find}
-use Rattle.kinds.specs.Queue.{has_number, insert_item}
-use Rattle.ready_queue.proofs.WalkLemmas.{queue_put}
+use Rattle.kinds.specs.Queue.{number_of, has_number}
+use Rattle.ordered.proofs.Listed.{listed_put, listed_back}
+use Rattle.ready_queue.specs.Runs.{run_of}
+use Rattle.ready_queue.proofs.RunLemmas.{no_rank, same_insert}
 use Rattle.ready_queue.proofs.queue.ReadyQueue.add.Goals as goal
 
-pub invariant_of-self-2 : goal.invariant_of-self-2
-invariant_of-self-2 c =
-    (queue_put c.self.inside.items.entries c.insert.new.self.entries c.args.item c.self.invariant (ap (find (has_number c.args.item.number)) c.self.view_is ∙ c.requires.fresh) c.requires.start
-    c.in_ok-insert.ensures.entries c.in_ok-insert.ensures.ordered).1
+pub invariant_of-self-in-Ok : goal.invariant_of-self-in-Ok
+invariant_of-self-in-Ok c =
+    listed_put nat_cmp_total run_of number_of no_rank c.args.item c.args.item.run c.args.item.number _ _ _ _ c.self.invariant refl refl
+    (ap (find (has_number c.args.item.number)) c.self.view_is ∙ c.requires.fresh) (c.in-Ok.ensures.ok ∙ same_insert c.args.item _) c.in_ok-insert.ensures.updates.0
 
-pub returns-clause-ok : goal.returns-clause-ok
-returns-clause-ok c =
-    (queue_put c.self.inside.items.entries c.insert.new.self.entries c.args.item c.self.invariant (ap (find (has_number c.args.item.number)) c.self.view_is ∙ c.requires.fresh) c.requires.start
-    c.in_ok-insert.ensures.entries c.in_ok-insert.ensures.ordered).0
-    ∙ ap (insert_item c.args.item) c.self.view_is
+pub invariant_of-self-in-Err : goal.invariant_of-self-in-Err
+invariant_of-self-in-Err c =
+    listed_back nat_cmp_total run_of number_of c.args.item.run c.args.item.number _ _ _ _ _ c.self.invariant
+    (ap (find (has_number c.args.item.number)) c.self.view_is ∙ c.requires.fresh) c.in-Err.ensures.err c.in_ok-insert.ensures.updates.0 c.remove.ensures.updates.0

@@ -1,0 +1,255 @@
+ghost use Rattle.std.specs.Prelude.{◌≡◌, ◌+◌, ◌≤◌, ◌<◌, [], length, find, None, OnOk, OnErr, IfOk, true, false};
+ghost use Rattle.std.specs.Bool.{OnTrue, OnFalse};
+ghost use Rattle.kinds.specs.Cells.{IsStart, last_moment};
+ghost use Rattle.kinds.specs.Queue.{has_number, without_number, insert_item, least_admissible, groups_of, group_of, next_item};
+ghost use Rattle.ready_queue.specs.Heads.{second};
+ghost use Rattle.ready_queue.specs.Held.{holds, Goes};
+ghost use Rattle.ready_queue.specs.Pool.{NoneDue};
+ghost use Rattle.ready_queue.specs.Store.{IsScore, lifted};
+
+use crate::item::{group_of, lifted};
+use crate::ready::Ready;
+use crate::store::Store;
+use crate::{Entries, Gate};
+use concurrency_keys::ConcurrencyKeys;
+use kinds::{Item, Steps};
+use lists::Memory;
+use std::alloc::Global;
+use std::collections::BTreeSet;
+use std::marker::Model;
+use std::sync::ledger::Ledger;
+use throttle::Starts;
+
+/// Items, those that are due in their groups, the others in order of their dues. The groups have what is due by
+/// `horizon`, and nothing else is due by `clear`.
+#[derive(Drop)]
+pub(crate) struct Pool {
+    store: Store,
+    ready: Ready,
+    waiting: BTreeSet<(u64, u64)>,
+    horizon: u64,
+    clear: u64,
+}
+
+impl Model for Pool {
+    ghost use Rattle.ready_queue.specs.Held.{holds};
+    ghost use Rattle.ready_queue.specs.Pool.{Pool, IsPool};
+
+    ghost Value = { Pool };
+
+    ghost view = { λ p. record { items = p.store; waiting = p.waiting.keys; horizon = p.horizon; clear = p.clear } };
+
+    ghost invariant = { λ p. IsPool p.store (holds p.ready) p.waiting.keys p.horizon p.clear };
+}
+
+/// Takes an item out of its group, and gives it back.
+fn leave(ready: &mut Ready, item: Item) -> Item
+    ensures item { result ≡ item }
+    ensures goes { Goes (group_of item) (lifted item.score) item.number (holds ready.old) (holds ready.new) }
+{
+    let counted = lifted(&item);
+    let Item {
+        number,
+        run,
+        target,
+        attempt,
+        due,
+        score,
+        cells,
+        start,
+    } = item;
+    let group = (cells, start);
+    ready.remove(&group, counted, number);
+    let (cells, start) = group;
+    Item {
+        number,
+        run,
+        target,
+        attempt,
+        due,
+        score,
+        cells,
+        start,
+    }
+}
+
+fn second(best: Option<(u64, u64)>) -> Option<u64>
+    ensures { result ≡ second best }
+{
+    match best {
+        Some((_, number)) => Some(number),
+        None => None,
+    }
+}
+
+impl Pool {
+    pub(crate) fn empty(alloc: Global) -> Self
+        ensures { result.items ≡ [] }
+    {
+        Pool {
+            store: Store::empty(alloc),
+            ready: Ready::empty(alloc),
+            waiting: BTreeSet::new(alloc),
+            horizon: 0,
+            clear: 0,
+        }
+    }
+
+    // Adds an item that is due by the horizon.
+    fn add_due(&mut self, item: Item) -> Result<(), Memory>
+        requires fresh { find (has_number item.number) self.old.items ≡ None }
+        requires start { IsStart item.start }
+        requires due { item.due ≤ self.old.horizon }
+        ensures ok { OnOk result (self.new.items ≡ insert_item item self.old.items) }
+        ensures err { OnErr result (self.new.items ≡ self.old.items) }
+    {
+        let group = group_of(&item)?;
+        let (score, number) = (lifted(&item), item.number);
+        self.ready.add(&group, score, number)?;
+        match self.store.put(item) {
+            Ok(()) => Ok(()),
+            Err(_) => {
+                self.ready.remove(&group, score, number);
+                Err(Memory)
+            }
+        }
+    }
+
+    // Adds an item that is due later.
+    fn add_late(&mut self, item: Item) -> Result<(), Memory>
+        requires fresh { find (has_number item.number) self.old.items ≡ None }
+        requires start { IsStart item.start }
+        requires score { IsScore item.score }
+        requires due { self.old.horizon < item.due }
+        ensures ok { OnOk result (self.new.items ≡ insert_item item self.old.items) }
+        ensures err { OnErr result (self.new.items ≡ self.old.items) }
+    {
+        let place = (item.due, item.number);
+        self.waiting.insert(place)?;
+        match self.store.put(item) {
+            Ok(()) => Ok(()),
+            Err(_) => {
+                self.waiting.remove(&place);
+                Err(Memory)
+            }
+        }
+    }
+
+    /// Adds an item whose number none has.
+    pub(crate) fn add(&mut self, item: Item) -> Result<(), Memory>
+        requires fresh { find (has_number item.number) self.old.items ≡ None }
+        requires start { IsStart item.start }
+        ensures ok { OnOk result (self.new.items ≡ insert_item item self.old.items) }
+        ensures err { OnErr result (self.new.items ≡ self.old.items) }
+    {
+        let _score = lifted(&item);
+        if item.due <= self.horizon {
+            self.add_due(item)
+        } else {
+            self.add_late(item)
+        }
+    }
+
+    /// The first in order of the items that are due and for which the gate is open. Looks at each group once where
+    /// the groups have what is due at the moment, and else at all items.
+    pub(crate) fn least_admissible<G: Gate, L: Ledger>(
+        &self,
+        t: u64,
+        gate: &G,
+        steps: &mut Steps<L>,
+    ) -> Option<u64>
+        requires { t ≤ last_moment }
+        ensures least { result ≡ least_admissible (G.is_open gate.now t) t self.now.items }
+        ensures asked { steps.new ≤ steps.old + groups_of self.now.items }
+    {
+        if self.horizon <= t && t <= self.clear {
+            return second(self.ready.least_open(self.store.map(), t, gate, steps));
+        }
+        self.store.least_admissible(t, gate, steps)
+    }
+
+    /// Takes an item out.
+    pub(crate) fn take(&mut self, number: u64) -> Option<Item>
+        ensures value { result ≡ find (has_number number) self.old.items }
+        ensures left { self.new.items ≡ without_number number self.old.items }
+    {
+        let item = self.store.take(number)?;
+        self.waiting.remove(&(item.due, number));
+        Some(leave(&mut self.ready, item))
+    }
+
+    // Moves an item over that is due by the horizon, and says whether there was one.
+    fn move_one(&mut self) -> Result<bool, Memory>
+        ensures items { self.new.items ≡ self.old.items }
+        ensures horizon { self.new.horizon ≡ self.old.horizon }
+        ensures clear { self.new.clear ≡ self.old.clear }
+        ensures moved { IfOk result (λ b. OnTrue b (length self.new.waiting < length self.old.waiting)) }
+        ensures done { IfOk result (λ b. OnFalse b (NoneDue self.new.waiting self.new.horizon)) }
+    {
+        let Some(first) = self.waiting.first() else {
+            return Ok(false);
+        };
+        let (due, number) = *first;
+        if self.horizon < due {
+            return Ok(false);
+        }
+        let Some(item) = self.store.get(number) else {
+            return Err(Memory);
+        };
+        let group = group_of(item)?;
+        self.ready.add(&group, lifted(item), number)?;
+        self.waiting.remove(&(due, number));
+        Ok(true)
+    }
+
+    fn set_horizon(&mut self, t: u64)
+        requires { self.old.horizon ≤ t }
+        ensures { self.new ≡ record self.old { horizon = t } }
+    {
+        self.horizon = t;
+    }
+
+    fn set_clear(&mut self, t: u64)
+        requires none { NoneDue self.old.waiting t }
+        requires near { t ≤ self.old.horizon }
+        ensures { self.new ≡ record self.old { clear = t } }
+    {
+        self.clear = t;
+    }
+
+    /// What is due by the moment goes into its group.
+    fn ripen(&mut self, t: u64) -> Result<(), Memory>
+        requires { self.old.horizon ≤ t }
+        ensures { self.new.items ≡ self.old.items }
+    {
+        self.set_horizon(t);
+        while self.move_one()? {}
+        self.set_clear(t);
+        Ok(())
+    }
+
+    /// Lets a moment come. Does nothing where it is past.
+    pub(crate) fn pass(&mut self, t: u64) -> Result<(), Memory>
+        ensures { self.new.items ≡ self.old.items }
+    {
+        if t < self.horizon {
+            return Ok(());
+        }
+        self.ripen(t)
+    }
+
+    /// The least of the items' next moments.
+    pub(crate) fn next(&self, t: u64, cells: &ConcurrencyKeys, throttle: &Starts) -> Option<u64>
+        requires { t ≤ last_moment }
+        ensures { result ≡ next_item cells.now throttle.now t self.now.items }
+    {
+        self.store.next(t, cells, throttle)
+    }
+
+    /// The items by reference, in order of number.
+    pub(crate) fn entries(&self) -> Entries<'_>
+        ensures { result ≡ self.now.items }
+    {
+        self.store.entries()
+    }
+}
