@@ -1,6 +1,7 @@
 pub mod Answer
 pub mod Cells
 pub mod ErrorObject
+pub mod Inputs
 pub mod Limits
 pub mod Moments
 pub mod Queue

@@ -34,7 +34,7 @@ pub use reply::{After, Op, Outcome, ReplyIn, Time};
 pub use seen::SeenEntry;
 pub use step_hash::StepHash;
 pub use steps::Steps;
-pub use store::{Bucket, Due, Fired, Item, Pending, Rule, StepEntry, Wait};
+pub use store::{Bucket, Due, Fired, Item, Parent, Pending, Rule, RunStatus, StepEntry, Wait};
 pub use window::{Offered, Window, WindowRule};
 
 /// A list of numbers.

@@ -6,6 +6,10 @@ ghost use Rattle.kinds.specs.Limits.{shipped};
 pub struct Limits {
     /// Bytes of events, results and remembered ids.
     pub kept: u64,
+    /// Runs that have not ended.
+    pub live: u64,
+    /// Functions that are current, of all applications.
+    pub functions: u64,
 }
 
 impl Limits {
@@ -13,6 +17,10 @@ impl Limits {
     pub fn shipped() -> Self
         ensures { result ≡ shipped }
     {
-        Limits { kept: 1 << 30 }
+        Limits {
+            kept: 1 << 30,
+            live: 1_000_000,
+            functions: 1024,
+        }
     }
 }

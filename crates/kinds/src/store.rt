@@ -61,6 +61,24 @@ pub struct Item {
     pub start: Option<Cell>,
 }
 
+/// The step of a run that invoked another run, and waits for its end.
+#[derive(Clone, Copy, Debug, PartialEq, Eq)]
+pub struct Parent {
+    pub run: u64,
+    pub hash: StepHash,
+}
+
+/// Where a run stands.
+#[derive(Clone, Copy, Debug, PartialEq, Eq)]
+pub enum RunStatus {
+    /// No call of it was made yet.
+    Queued,
+    Running,
+    Completed,
+    Failed,
+    Cancelled,
+}
+
 /// The events of a window that is over, for a run of this function version.
 #[derive(Drop)]
 pub struct Fired {

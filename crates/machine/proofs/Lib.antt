@@ -1,2 +1,3 @@
 mod EventsLemmas
 mod Fresh
+mod StepLemmas

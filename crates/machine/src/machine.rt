@@ -1,12 +1,17 @@
-ghost use Rattle.std.specs.Prelude.{◌≡◌, ◌<◌, ◌≤◌, ◌+◌, ◌^◌, IfOk, OnOk, MatchResult, Option, Some, None, [], length};
+ghost use Rattle.std.specs.Prelude.{◌≡◌, ◌<◌, ◌≤◌, ◌+◌, ◌^◌, ◌∷◌, [], IfOk, OnOk, MatchResult, Option, Some, None, length};
 ghost use Rattle.kinds.specs.Seen.{weight_of};
-ghost use Rattle.kinds.specs.declared.input.Input.TheVariants.{Events};
+ghost use Rattle.kinds.specs.Inputs.{reading};
+ghost use Rattle.kinds.specs.declared.input.Input.TheVariants.{Events, Register, Tick, Reopened};
 ghost use Rattle.machine_model.specs.State.{empty, at_moment, moment_at, greatest, live};
-ghost use Rattle.machine_model.specs.Machine.{Accepts, count_input, new_event, on_event, on_events, refusal, refusal_of_events, repeats, spent, step};
+ghost use Rattle.machine_model.specs.Machine.{Accepts, Stepped, answered, count_input, is_changed, new_event, on_event, on_events};
+ghost use Rattle.machine_model.specs.Machine.{on_register, refusal, refusal_of_events, refusal_of_registration, registered_answer};
+ghost use Rattle.machine_model.specs.Machine.{repeats, silent, spent, step, with_functions};
+ghost use Rattle.machine.specs.View.{IsStepped};
 
+use functions::Functions;
 use intake::Seen;
-use kinds::{EventIn, Input, Limits, Out, Refusal, ids_answer};
-use lists::{Items, Memory};
+use kinds::{App, EventIn, Input, Limits, Out, Refusal, ids_answer};
+use lists::{Bytes, Items, Memory};
 use std::alloc::Global;
 use std::marker::Model;
 
@@ -24,6 +29,8 @@ pub struct Machine {
     moment: u64,
     inputs: u64,
     events: u64,
+    versions: u64,
+    functions: Functions,
     seen: Seen,
 }
 
@@ -51,6 +58,8 @@ impl Machine {
             moment: 0,
             inputs: 0,
             events: 0,
+            versions: 0,
+            functions: Functions::empty(alloc),
             seen: Seen::empty(alloc),
         })
     }
@@ -80,7 +89,7 @@ impl Machine {
     pub fn greatest(&self) -> u64
         ensures { result ≡ greatest self.now }
     {
-        self.inputs.max(self.events)
+        self.inputs.max(self.events).max(self.versions)
     }
 
     /// How many runs have not ended.
@@ -100,6 +109,26 @@ impl Machine {
         }
         match input {
             Input::Events { .. } => self.check_room(),
+            Input::Register { app, .. } => self.check_functions(app),
+            Input::Reply { call, .. } | Input::CallFailed { call, .. } => {
+                Err(Refusal::UnknownCall { call: *call })
+            }
+            Input::Cancel { run, .. } => Err(Refusal::UnknownRun { run: *run }),
+            Input::Tick { .. } | Input::Reopened { .. } => Ok(()),
+        }
+    }
+
+    // Whether the functions that would be current after a registration are few enough.
+    fn check_functions(&self, app: &App) -> Result<(), Refusal>
+        ensures { MatchResult result
+            (λ _. refusal_of_registration app.now self.now ≡ None)
+            (λ cause. refusal_of_registration app.now self.now ≡ Some cause) }
+    {
+        let functions = self.functions.current_after(app);
+        if functions > self.limits.functions {
+            Err(Refusal::FunctionsFull { functions })
+        } else {
+            Ok(())
         }
     }
 
@@ -117,27 +146,72 @@ impl Machine {
 
     /// Takes one input, and answers the machine after it with what is to be said, in order. Want of memory
     /// spends the machine.
-    pub fn step(self, input: Input) -> Result<(Self, Items<Out>), Memory>
+    #[tactic(auto, unfolding(machine_model::specs::Machine::act))]
+    pub fn step(mut self, input: Input) -> Result<(Self, Items<Out>), Memory>
         requires { Accepts self input }
-        ensures { IfOk result (λ stepped. (stepped.0 ≡ (step self input).state) × (stepped.1 ≡ (step self input).outs)) }
+        ensures { IfOk result (IsStepped (step self input)) }
     {
+        self.advance(input.at());
+        self.count_input();
         match input {
-            Input::Events { at, events } => self.take_events(at, events.as_slice()),
+            Input::Events { events, .. } => self.take_events(events.as_slice()),
+            Input::Register { app, .. } => self.take_registration(app),
+            Input::Reply { reply: _reply, .. } => Ok(self.silent()),
+            Input::CallFailed { .. }
+            | Input::Tick { .. }
+            | Input::Cancel { .. }
+            | Input::Reopened { .. } => Ok(self.silent()),
         }
     }
 
-    // Takes the events of one request, and answers their ids.
-    #[tactic(auto, unfolding(machine_model::specs::Machine::act))]
-    fn take_events(mut self, at: u64, events: &[EventIn]) -> Result<(Self, Items<Out>), Memory>
-        requires { greatest self < spent }
-        ensures { IfOk result (λ stepped. (stepped.0 ≡ (step self (Events at events.now)).state) × (stepped.1 ≡ (step self (Events at events.now)).outs)) }
+    // The machine with nothing that is to be said.
+    fn silent(self) -> (Self, Items<Out>)
+        ensures { IsStepped (silent self) result }
     {
-        self.advance(at);
-        self.count_input();
+        let outs = Items::new(self.alloc);
+        (self, outs)
+    }
+
+    // Takes the events of one request, and answers their ids.
+    fn take_events(mut self, events: &[EventIn]) -> Result<(Self, Items<Out>), Memory>
+        requires { self.events < spent }
+        ensures { IfOk result (IsStepped (answered (on_events events.now (record { state = self; numbers = [] })))) }
+    {
         let numbers = self.on_events(events)?;
+        let answer = ids_answer(self.alloc, numbers.as_slice())?;
+        self.say(answer)
+    }
+
+    // Takes the functions of an application, and answers whether anything changed.
+    fn take_registration(mut self, app: App) -> Result<(Self, Items<Out>), Memory>
+        requires { self.versions < spent }
+        ensures { IfOk result (IsStepped (on_register app self)) }
+    {
+        let modified = self.register(app)?;
+        let answer = registered_answer(self.alloc, modified)?;
+        self.say(answer)
+    }
+
+    // The machine with one thing that is to be said.
+    fn say(self, out: Out) -> Result<(Self, Items<Out>), Memory>
+        ensures { IfOk result (IsStepped (record { state = self; outs = out ∷ [] })) }
+    {
         let mut outs = Items::new(self.alloc);
-        outs.push(ids_answer(self.alloc, numbers.as_slice())?)?;
+        outs.push(out)?;
         Ok((self, outs))
+    }
+
+    // The functions of an application take the place of those that it had.
+    fn register(&mut self, app: App) -> Result<bool, Memory>
+        requires { self.old.versions < spent }
+        ensures changed { IfOk result (λ modified. modified ≡ is_changed app self.old) }
+        ensures functions { OnOk result (self.new ≡ with_functions app self.old) }
+    {
+        let before = std::mem::replace(&mut self.functions, Functions::empty(self.alloc));
+        let registered = before.register(self.alloc, app, self.versions)?;
+        self.functions = registered.functions;
+        self.versions = registered.versions;
+        Ok(registered.modified)
     }
 
     // Time goes on to the moment of an input with this clock reading.
@@ -201,4 +275,18 @@ impl Machine {
         self.events = number;
         Ok(number)
     }
+}
+
+// The answer to a registration: whether the list of current functions is another than before.
+fn registered_answer(alloc: Global, modified: bool) -> Result<Out, Memory>
+    ensures { IfOk result (λ out. out ≡ registered_answer modified) }
+{
+    let mut body = Bytes::from_slice(alloc, b"{\"ok\":true,\"modified\":")?;
+    if modified {
+        body.extend_from_slice(b"true")?;
+    } else {
+        body.extend_from_slice(b"false")?;
+    }
+    body.extend_from_slice(b"}")?;
+    Ok(Out::Answer { status: 200, body })
 }

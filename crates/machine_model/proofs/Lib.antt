@@ -1,2 +1,5 @@
+pub mod FunctionLemmas
+pub mod OwnIds
+pub mod Pairwise
 pub mod SeenLemmas
 pub mod SoundLemmas

@@ -7,11 +7,6 @@ use Rattle.kinds.specs.declared.seen.SeenEntry.{SeenEntry}
 use Rattle.machine_model.specs.Sound.{AreInOrder}
 use Rattle.lists.proofs.Elements.{all-filter, all-last}
 
-pub apart-filter : (test : SeenEntry → Bool) (es : List SeenEntry) → AreInOrder es → AreInOrder (filter test es)
-apart-filter test [] h = tt
-apart-filter test (e ∷ es) h =
-    elim (test e) as (λ b. AreInOrder (cond b (e ∷ filter test es) (filter test es))) [ true ↦ (all-filter _ test es h.0, apart-filter test es h.1) | false ↦ apart-filter test es h.1 ]
-
 -- an entry above all others in number comes last
 pub insert-above : (entry : SeenEntry) (es : List SeenEntry) → AllByRecursion (λ (e : SeenEntry). e.number < entry.number) es → insert_seen entry es ≡ es ++ entry ∷ []
 insert-above entry [] h = refl

@@ -1,15 +1,19 @@
 -- The documented machine: what an input does to the state, and what is said.
-use Rattle.std.specs.Prelude.{ℕ, ◌≡◌, ◌+◌, ◌^◌, List, [], ◌∷◌, ◌++◌, Option, Some, None, nat_le, if◌then◌else◌}
+use Rattle.std.specs.Prelude.{ℕ, ◌≡◌, ◌+◌, ◌^◌, Bool, true, false, List, [], ◌∷◌, ◌++◌, Option, Some, None, codes, length, nat_le, nat_lt, if◌then◌else◌}
 use Rattle.std.specs.Option.{option_and_then}
 use Rattle.kinds.specs.Answer.{ids_answer}
+use Rattle.functions.specs.Functions.{current_after, is_modified, new_in, registered}
+use Rattle.kinds.specs.Inputs.{reading}
 use Rattle.kinds.specs.Seen.{find_seen, note_seen}
 use Rattle.kinds.specs.declared.event.EventIn.{EventIn}
+use Rattle.kinds.specs.declared.function.App.{App}
 use Rattle.kinds.specs.declared.input.Input.{Input}
-use Rattle.kinds.specs.declared.input.Input.TheVariants.{Events}
+use Rattle.kinds.specs.declared.input.Input.TheVariants.{Events, Register, Reply, CallFailed, Tick, Cancel, Reopened}
 use Rattle.kinds.specs.declared.limits.Limits.{Limits}
 use Rattle.kinds.specs.declared.out.Out.{Out}
+use Rattle.kinds.specs.declared.out.Out.TheVariants.{Answer}
 use Rattle.kinds.specs.declared.refusal.Refusal.{Refusal}
-use Rattle.kinds.specs.declared.refusal.Refusal.TheVariants.{NumbersSpent, KeptFull}
+use Rattle.kinds.specs.declared.refusal.Refusal.TheVariants.{NumbersSpent, KeptFull, FunctionsFull, UnknownCall, UnknownRun}
 use Rattle.kinds.specs.declared.seen.SeenEntry.{SeenEntry}
 use Rattle.machine_model.specs.State.{State, empty, moment_at, at_moment, greatest, kept}
 
@@ -45,6 +49,23 @@ unfoldable pub on_events : List EventIn → Answering → Answering
 on_events [] answering = answering
 on_events (event ∷ events) answering = on_events events (on_event event answering)
 
+-- ## Registrations
+
+abbrev pub boolean_text : Bool → List ℕ
+boolean_text true = codes "true"
+boolean_text false = codes "false"
+
+-- the answer to a registration: whether the list of current functions is another than before
+abbrev pub registered_answer : Bool → Out
+registered_answer modified = Answer 200 (codes "{\"ok\":true,\"modified\":" ++ boolean_text modified ++ codes "}")
+
+-- the functions of an application take the place of those that it had
+abbrev pub with_functions : App → State → State
+with_functions app s = record s { versions = s.versions + length (new_in app s.functions); functions = registered app s.versions s.functions }
+
+abbrev pub is_changed : App → State → Bool
+is_changed app s = is_modified s.functions (registered app s.versions s.functions)
+
 -- ## One step
 
 -- a state with what was said on the way to it, in order
@@ -55,12 +76,21 @@ pub record Stepped : Type 0 where
 abbrev pub answered : Answering → Stepped
 answered answering = record { state = answering.state; outs = ids_answer answering.numbers ∷ [] }
 
--- an input acts on the state at its moment
+abbrev pub on_register : App → State → Stepped
+on_register app s = record { state = with_functions app s; outs = registered_answer (is_changed app s) ∷ [] }
+
+abbrev pub silent : State → Stepped
+silent s = record { state = s; outs = [] }
+
+-- An input acts on the state at its moment. Functions make no runs yet, so no call is open and no run is live.
 unfoldable pub act : Input → State → Stepped
 act (Events at events) s = answered (on_events events (record { state = s; numbers = [] }))
-
-abbrev pub reading : Input → ℕ
-reading (Events at events) = at
+act (Register at app) s = on_register app s
+act (Reply at call reply) s = silent s
+act (CallFailed at call) s = silent s
+act (Tick at) s = silent s
+act (Cancel at run) s = silent s
+act (Reopened at) s = silent s
 
 abbrev pub count_input : State → State
 count_input s = record s { inputs = s.inputs + 1 }
@@ -78,8 +108,19 @@ spent = 2 ^ 61
 abbrev pub refusal_of_events : State → Option Refusal
 refusal_of_events s = if nat_le s.limits.kept (kept s) then Some (KeptFull (kept s)) else None
 
+-- more functions than the limit would be current
+abbrev pub refusal_of_registration : App → State → Option Refusal
+refusal_of_registration app s =
+    if nat_lt s.limits.functions (current_after app s.functions) then Some (FunctionsFull (current_after app s.functions)) else None
+
 abbrev pub refusal_by_kind : State → Input → Option Refusal
 refusal_by_kind s (Events at events) = refusal_of_events s
+refusal_by_kind s (Register at app) = refusal_of_registration app s
+refusal_by_kind s (Reply at call reply) = Some (UnknownCall call)
+refusal_by_kind s (CallFailed at call) = Some (UnknownCall call)
+refusal_by_kind s (Tick at) = None
+refusal_by_kind s (Cancel at run) = Some (UnknownRun run)
+refusal_by_kind s (Reopened at) = None
 
 -- why the state as it stands turns an input away, if it does
 abbrev pub refusal : State → Input → Option Refusal

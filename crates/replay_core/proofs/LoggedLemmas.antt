@@ -7,10 +7,11 @@ use Rattle.replay_core.specs.Accepted.{accepted_line, accepted_lines, is_accepte
 use Rattle.replay_core.specs.Line.{read_line}
 use Rattle.replay_core.specs.Log.{FinishesLog, IsLogging, IsOnDisk, Logs, StandsForEither, StopsLog, payloads_in}
 use Rattle.replay_core.specs.Pieces.{last_line, text_of_line}
-use Rattle.replay_core.specs.Replay.{Outcome, Goes, Stops, Finished, Progress, end_line, finish, on_line, on_lines}
+use Rattle.replay_core.specs.Replay.{Outcome, Goes, Stops, Finished, Progress, end_line, finish, line_read, on_line, on_lines}
 use Rattle.replay_core.specs.Run.{Finishes, RunsAs, Says, SaysPrefix, transcript_of}
 use Rattle.replay_core.specs.declared.end.LineFault.{LineFault}
 use Rattle.replay_core.specs.declared.end.LineFault.TheVariants as fault
+use Rattle.replay_core.specs.declared.line.Grammar.{Grammar}
 use Rattle.replay_core.specs.declared.logged.Logged.{Logged}
 use Rattle.replay_core.specs.declared.progress.Ran.{Ran}
 use Rattle.replay_core.proofs.AcceptedLemmas.{accepted-one}
@@ -20,13 +21,13 @@ use Rattle.replay_core.proofs.ReplayLemmas.{on_lines-one}
 -- ## One line
 
 -- an accepted line has a text
-pub accepted-some : (state : State) (text : List ℕ) → true ≡ is_accepted state (read_line text) → 0 < length text
+pub accepted-some : (state : State) (grammar : Grammar) (text : List ℕ) → true ≡ is_accepted state (read_line grammar text) → 0 < length text
 unfolding read_line
-accepted-some state [] is = cc
-accepted-some state (byte ∷ bytes) is = omega arith
+accepted-some state grammar [] is = cc
+accepted-some state grammar (byte ∷ bytes) is = omega arith
 
 -- what a line within the limit adds
-pub accepted-is : (progress : Progress) (line : List ℕ) (accepted : Bool) → length line ≤ progress.room → accepted ≡ is_accepted progress.state (read_line (text_of_line line)) → line_where accepted line ≡ accepted_line progress line
+pub accepted-is : (progress : Progress) (line : List ℕ) (accepted : Bool) → length line ≤ progress.room → accepted ≡ is_accepted progress.state (line_read progress line) → line_where accepted line ≡ accepted_line progress line
 unfolding accepted_line
 accepted-is progress line accepted fits is =
     let passes : nat_lt progress.room (length line) ≡ false = grind (arith, fits) in
@@ -38,7 +39,7 @@ runs-says outcome said fault.Spent h = (h, refl)
 runs-says outcome said fault.Memory h = refl
 
 -- a line at which the run broke off before the journal was touched
-pub runs-stops : (progress : Progress) (line : List ℕ) (size : ℕ) (rig : MemoryRig) (e : LineFault) → length line ≤ progress.room → IsLogging size rig → (e ≡ fault.Memory) ⊎ (is_accepted progress.state (read_line (text_of_line line)) ≡ false) → StopsLog (accepted_line progress line) rig rig e
+pub runs-stops : (progress : Progress) (line : List ℕ) (size : ℕ) (rig : MemoryRig) (e : LineFault) → length line ≤ progress.room → IsLogging size rig → (e ≡ fault.Memory) ⊎ (is_accepted progress.state (line_read progress line) ≡ false) → StopsLog (accepted_line progress line) rig rig e
 runs-stops progress line size rig (fault.Outside n) fits log (inl is) = cc
 runs-stops progress line size rig (fault.Outside n) fits log (inr none) = (sym (accepted-is progress line false fits (sym none)), refl)
 runs-stops progress line size rig fault.Spent fits log (inl is) = cc

@@ -3,9 +3,8 @@ use Rattle.std.specs.Prelude.{ℕ, List, [], ◌∷◌, ◌++◌, Bool, false, O
 use Rattle.std.specs.Option.{is_none}
 use Rattle.machine_model.specs.Machine.{refusal}
 use Rattle.machine_model.specs.State.{State}
-use Rattle.replay_core.specs.Line.{read_line}
 use Rattle.replay_core.specs.Pieces.{text_of_line}
-use Rattle.replay_core.specs.Replay.{Outcome, Goes, Stops, Progress, on_line}
+use Rattle.replay_core.specs.Replay.{Outcome, Goes, Stops, Progress, line_read, on_line}
 use Rattle.replay_core.specs.declared.line.Line.{Line}
 use Rattle.replay_core.specs.declared.line.Line.TheVariants as line
 use Rattle.requests.specs.declared.requested.Requested.TheVariants as requested
@@ -23,7 +22,7 @@ line_where accepted line = if accepted then text_of_line line ∷ [] else []
 unfoldable pub accepted_line : Progress → List ℕ → List (List ℕ)
 accepted_line progress line =
     if nat_lt progress.room (length line) then []
-    else line_where (is_accepted progress.state (read_line (text_of_line line))) line
+    else line_where (is_accepted progress.state (line_read progress line)) line
 
 -- a run that goes on adds this next, and one that has ended no more
 abbrev pub added_next : Outcome → (Progress → List (List ℕ)) → List (List ℕ)

@@ -10,7 +10,9 @@ use Rattle.kinds.specs.declared.input.Input.TheVariants.{Events}
 use Rattle.text_num.specs.Digits.{u64_of}
 use Rattle.replay_core.specs.declared.line.Line.{Line}
 use Rattle.replay_core.specs.declared.line.Line.TheVariants.{Passed, Asks}
-use Rattle.requests.specs.Requests.{events_request}
+use Rattle.replay_core.specs.declared.line.Grammar.{Grammar}
+use Rattle.replay_core.specs.declared.line.Grammar.TheVariants.{Whole, WithoutEvents}
+use Rattle.requests.specs.Requests.{events_request, register_request}
 use Rattle.requests.specs.declared.requested.Requested.TheVariants.{Input}
 
 -- a word up to the first space, and what stands behind that space, where there is one
@@ -56,18 +58,31 @@ event_line at text = option_map (λ event. Asks (Input (Events at (event ∷ [])
 abbrev pub events_line : ℕ → List ℕ → Option Line
 events_line at body = option_map Asks (events_request at body)
 
--- what stands behind `MS` and its space
-abbrev pub at_reading : ℕ → List ℕ → Option Line
-at_reading at text =
-    let kind = (split_word text).word in
-    if bytes_eq kind (codes "EVENT") then option_and_then (event_line at) (split_word text).rest
-    else if bytes_eq kind (codes "EVENTS") then option_and_then (events_line at) (split_word text).rest
+-- `MS REGISTER BODY`, from its body on; want of memory has no answer
+abbrev pub registration_line : ℕ → List ℕ → Option Line
+registration_line at body = option_map Asks (register_request at body)
+
+-- a line of events
+abbrev pub events_at : Grammar → ℕ → List ℕ → List ℕ → Option Line
+events_at WithoutEvents at kind rest = None
+events_at Whole at kind rest =
+    if bytes_eq kind (codes "EVENT") then event_line at rest
+    else if bytes_eq kind (codes "EVENTS") then events_line at rest
     else None
 
+-- a line of this kind, from behind its space on
+abbrev pub line_of_kind : Grammar → ℕ → List ℕ → List ℕ → Option Line
+line_of_kind grammar at kind rest =
+    if bytes_eq kind (codes "REGISTER") then registration_line at rest else events_at grammar at kind rest
+
+-- what stands behind `MS` and its space
+abbrev pub at_reading : Grammar → ℕ → List ℕ → Option Line
+at_reading grammar at text = option_and_then (line_of_kind grammar at (split_word text).word) (split_word text).rest
+
 -- `MS` and what stands behind it
-abbrev pub timed_line : List ℕ → Option Line
-timed_line text =
-    option_and_then (λ at. option_and_then (at_reading at) (split_word text).rest) (result_ok (u64_of (split_word text).word))
+abbrev pub timed_line : Grammar → List ℕ → Option Line
+timed_line grammar text =
+    option_and_then (λ at. option_and_then (at_reading grammar at) (split_word text).rest) (result_ok (u64_of (split_word text).word))
 
 -- an empty line, or one that begins with `#` (35)
 abbrev pub is_passed : List ℕ → Bool
@@ -75,5 +90,5 @@ is_passed [] = true
 is_passed (byte ∷ bytes) = byte == 35
 
 -- what a line says; none is outside the grammar
-unfoldable pub read_line : List ℕ → Option Line
-read_line text = if is_passed text then Some Passed else timed_line text
+unfoldable pub read_line : Grammar → List ℕ → Option Line
+read_line grammar text = if is_passed text then Some Passed else timed_line grammar text

@@ -1,16 +1,19 @@
 -- What a script makes the documented machine say, and how it ends.
 use Rattle.std.specs.Prelude.{ℕ, ◌+◌, ◌-◌, List, [], ◌∷◌, ◌++◌, Option, Some, None}
-use Rattle.std.specs.Prelude.{length, nat_lt, if◌then◌else◌, codes, decimal, flat_map}
+use Rattle.std.specs.Prelude.{length, nat_lt, ◌==◌, if◌then◌else◌, codes, decimal, flat_map}
 use Rattle.kinds.specs.Limits.{shipped}
 use Rattle.kinds.specs.Refusal.{refusal_answer}
 use Rattle.kinds.specs.declared.input.Input.{Input}
+use Rattle.kinds.specs.declared.input.Input.TheVariants.{Register}
 use Rattle.kinds.specs.declared.out.Out.{Out}
-use Rattle.kinds.specs.declared.out.Out.TheVariants.{Answer}
+use Rattle.kinds.specs.declared.out.Out.TheVariants.{Hang, Answer, Call}
 use Rattle.kinds.specs.declared.refusal.Refusal.{Refusal}
-use Rattle.kinds.specs.declared.refusal.Refusal.TheVariants.{NumbersSpent, KeptFull}
+use Rattle.kinds.specs.declared.refusal.Refusal.TheVariants.{NumbersSpent, UnknownCall, UnknownRun}
 use Rattle.machine_model.specs.Machine.{Stepped, step, refusal}
 use Rattle.machine_model.specs.State.{State, empty, live}
 use Rattle.replay_core.specs.Line.{read_line}
+use Rattle.replay_core.specs.declared.line.Grammar.{Grammar}
+use Rattle.replay_core.specs.declared.line.Grammar.TheVariants.{Whole, WithoutEvents}
 use Rattle.replay_core.specs.declared.line.Line.{Line}
 use Rattle.replay_core.specs.declared.line.Line.TheVariants as line
 use Rattle.replay_core.specs.Pieces.{all_lines, lines_of, text_of_line}
@@ -33,6 +36,8 @@ pub record Transcript : Type 0 where
 -- where a script's run stands between two lines
 pub record Progress : Type 0 where
   pub state : State
+  -- which lines there are
+  pub grammar : Grammar
   -- the lines read so far
   pub lines : ℕ
   -- the bytes that the script may still have
@@ -43,7 +48,7 @@ abbrev pub script_limit : ℕ
 script_limit = 1048576
 
 abbrev pub start : Progress
-start = record { state = empty shipped; lines = 0; room = script_limit }
+start = record { state = empty shipped; grammar = Whole; lines = 0; room = script_limit }
 
 -- a run that goes on, or one that has ended, each with what was printed
 pub data Outcome : Type 0 where
@@ -52,8 +57,20 @@ pub data Outcome : Type 0 where
 
 -- ## Printed lines
 
+-- a body behind its space, where there is one
+abbrev pub body_text : List ℕ → List ℕ
+body_text [] = []
+body_text (byte ∷ bytes) = 32 ∷ byte ∷ bytes
+
+-- the port of a URL, where it isn't the scheme's own
+abbrev pub port_text : ℕ → List ℕ
+port_text port = if port == 80 then [] else codes ":" ++ decimal port
+
 abbrev pub printed : Out → List ℕ
-printed (Answer status body) = codes "answer " ++ decimal status ++ codes " " ++ body ++ codes "\n"
+printed (Hang call) = codes "hang " ++ decimal call ++ codes "\n"
+printed (Answer status body) = codes "answer " ++ decimal status ++ body_text body ++ codes "\n"
+printed (Call call function target run attempt steps events host port path body) =
+    codes "call " ++ decimal call ++ codes " POST http://" ++ host ++ port_text port ++ path ++ codes " " ++ body ++ codes "\n"
 
 abbrev pub end_line : State → List ℕ
 end_line s =
@@ -68,16 +85,24 @@ end_line s =
 abbrev pub counted : Progress → ℕ → Progress
 counted progress size = record progress { lines = progress.lines + 1; room = progress.room - size }
 
-abbrev pub taken : Progress → Stepped → Outcome
-taken progress stepped = Goes (record progress { state = stepped.state }) (flat_map printed stepped.outs)
+-- Functions make no runs yet, so once a registration was accepted there are no lines of events.
+abbrev pub grammar_after : Input → Grammar → Grammar
+grammar_after (Register at app) grammar = WithoutEvents
+grammar_after _ grammar = grammar
 
--- a refused input changes nothing
+abbrev pub taken : Progress → Input → Stepped → Outcome
+taken progress input stepped =
+    Goes (record progress { state = stepped.state; grammar = grammar_after input progress.grammar }) (flat_map printed stepped.outs)
+
+-- A refused input changes nothing. One that names a call that isn't open or an unknown run is outside the grammar.
 abbrev pub refused : Progress → Refusal → Outcome
 refused progress (NumbersSpent greatest) = Stops Spent []
-refused progress (KeptFull kept) = Goes progress (printed (refusal_answer (KeptFull kept)))
+refused progress (UnknownCall call) = Stops (Outside progress.lines) []
+refused progress (UnknownRun run) = Stops (Outside progress.lines) []
+refused progress cause = Goes progress (printed (refusal_answer cause))
 
 abbrev pub on_check : Progress → Input → Option Refusal → Outcome
-on_check progress input None = taken progress (step progress.state input)
+on_check progress input None = taken progress input (step progress.state input)
 on_check progress input (Some cause) = refused progress cause
 
 abbrev pub on_input : Progress → Input → Outcome
@@ -90,11 +115,15 @@ says progress (Some line.Passed) = Goes progress []
 says progress (Some (line.Asks (requested.Input input))) = on_input progress input
 says progress (Some (line.Asks (requested.Answered out))) = Goes progress (printed out)
 
+-- what a line says, given with the byte that ends it
+abbrev pub line_read : Progress → List ℕ → Option Line
+line_read progress line = read_line progress.grammar (text_of_line line)
+
 -- a line with the byte that ends it; where it passes the limit of a whole script, it is outside the grammar
 unfoldable pub on_line : Progress → List ℕ → Outcome
 on_line progress line =
     if nat_lt progress.room (length line) then Stops (Outside (progress.lines + 1)) []
-    else says (counted progress (length line)) (read_line (text_of_line line))
+    else says (counted progress (length line)) (line_read progress line)
 
 -- text was printed before
 abbrev pub after_text : List ℕ → Outcome → Outcome

@@ -4,6 +4,7 @@ ghost use Rattle.replay_core.specs.Ends.{end_of, unwritten};
 
 use lists::Memory;
 use rig::{ReadFailed, WriteFailed};
+use std::fmt;
 
 /// How the run of a script ended.
 #[derive(Clone, Copy, Debug, PartialEq, Eq)]
@@ -42,6 +43,39 @@ pub enum RunFault {
     Sink,
     /// It broke off at a line, or for want of memory.
     Line(LineFault),
+}
+
+impl fmt::Display for ReplayEnd {
+    fn fmt<W: fmt::Write>(&self, f: &mut fmt::Formatter<W>) -> fmt::Result {
+        match self {
+            ReplayEnd::Done => f.write_str("every line was run"),
+            ReplayEnd::Script { line } => write!(f, "line {line} is outside the grammar"),
+            ReplayEnd::ReadFault => f.write_str("the source failed"),
+            ReplayEnd::WriteFault => f.write_str("the sink failed"),
+            ReplayEnd::NumbersSpent => f.write_str("the machine takes no further input"),
+            ReplayEnd::Memory => f.write_str("out of memory"),
+        }
+    }
+}
+
+impl fmt::Display for LineFault {
+    fn fmt<W: fmt::Write>(&self, f: &mut fmt::Formatter<W>) -> fmt::Result {
+        match self {
+            LineFault::Outside { line } => write!(f, "line {line} is outside the grammar"),
+            LineFault::Spent => f.write_str("the machine takes no further input"),
+            LineFault::Memory => f.write_str("out of memory"),
+        }
+    }
+}
+
+impl fmt::Display for RunFault {
+    fn fmt<W: fmt::Write>(&self, f: &mut fmt::Formatter<W>) -> fmt::Result {
+        match self {
+            RunFault::Source => f.write_str("the source failed"),
+            RunFault::Sink => f.write_str("the sink failed"),
+            RunFault::Line(fault) => write!(f, "{fault}"),
+        }
+    }
 }
 
 /// How a run ended that went through or broke off.

@@ -27,7 +27,8 @@ pub fn append_line(journal: Journal, rig: &mut MemRig, line: &[u8]) -> Result<Jo
     requires fits { length line.now ≤ greatest }
     requires logging { IsLogging journal rig.old }
     ensures log { IfOk result (λ journal. Logs (payloads_in rig.old) (line.now ∷ []) journal rig.new) }
-    ensures failed { OnErr result (StandsForEither (payloads_in rig.old) (line.now ∷ []) rig.new.a.bytes) }
+    ensures failed { OnErr result
+        (StandsForEither (payloads_in rig.old) (line.now ∷ []) rig.new.a.bytes) }
     ensures starved { OnOk result (rig.new.counts.starved ≡ rig.old.counts.starved) }
 {
     match journal.append(rig, line) {

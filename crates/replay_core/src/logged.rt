@@ -48,8 +48,10 @@ impl Logged {
         requires room { length line.now ≤ self.progress.room }
         requires logging { IsLogging self.journal rig.old }
         ensures run { Says (on_line self.progress line.now) said.old said.new result }
-        ensures log { IfOk result (λ next. Logs (payloads_in rig.old) (accepted_line self.progress line.now) next.journal rig.new) }
-        ensures stops { IfErr result (λ e. StopsLog (accepted_line self.progress line.now) rig.old rig.new e) }
+        ensures log { IfOk result
+            (λ next. Logs (payloads_in rig.old) (accepted_line self.progress line.now) next.journal rig.new) }
+        ensures stops { IfErr result
+            (λ e. StopsLog (accepted_line self.progress line.now) rig.old rig.new e) }
         ensures starved { OnOk result (rig.new.counts.starved ≡ rig.old.counts.starved) }
         ensures room { IfOk result (λ next. next.progress.room + length line.now ≡ self.progress.room) }
     {
@@ -66,8 +68,10 @@ impl Logged {
     pub fn finish(self, last: &[u8], rig: &mut MemRig, said: &mut Bytes) -> Result<(), LineFault>
         requires room { length last.now ≤ self.progress.room }
         requires logging { IsLogging self.journal rig.old }
-        ensures run { Finishes (finish (on_lines self.progress (last_line last.now))) said.old said.new result }
-        ensures log { FinishesLog (accepted_lines self.progress (last_line last.now)) rig.old rig.new said.old said.new result }
+        ensures run { Finishes (finish (on_lines self.progress (last_line last.now))) said.old
+            said.new result }
+        ensures log { FinishesLog (accepted_lines self.progress (last_line last.now)) rig.old
+            rig.new said.old said.new result }
         ensures starved { OnOk result (rig.new.counts.starved ≡ rig.old.counts.starved) }
     {
         if last.is_empty() {
@@ -92,8 +96,10 @@ fn log_line(journal: Journal, rig: &mut MemRig, ran: &Ran, line: &[u8]) -> Resul
     requires some { ran.now.accepted ≡ true → 0 < length (text_of_line line.now) }
     requires fits { length (text_of_line line.now) ≤ greatest }
     requires logging { IsLogging journal rig.old }
-    ensures log { IfOk result (λ next. Logs (payloads_in rig.old) (line_where ran.now.accepted line.now) next rig.new) }
-    ensures failed { OnErr result (StandsForEither (payloads_in rig.old) (line_where ran.now.accepted line.now) rig.new.a.bytes) }
+    ensures log { IfOk result
+        (λ next. Logs (payloads_in rig.old) (line_where ran.now.accepted line.now) next rig.new) }
+    ensures failed { OnErr result
+        (StandsForEither (payloads_in rig.old) (line_where ran.now.accepted line.now) rig.new.a.bytes) }
     ensures starved { OnOk result (rig.new.counts.starved ≡ rig.old.counts.starved) }
 {
     if ran.accepted {

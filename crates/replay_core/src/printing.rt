@@ -1,6 +1,6 @@
 // The lines that a script's run prints, as texts.
-ghost use Rattle.std.specs.Prelude.{◌≡◌, ◌++◌, IfOk, OnOk, OnErr, flat_map};
-ghost use Rattle.replay_core.specs.Replay.{end_line, printed};
+ghost use Rattle.std.specs.Prelude.{◌≡◌, ◌++◌, IfOk, OnOk, codes, decimal, flat_map};
+ghost use Rattle.replay_core.specs.Replay.{body_text, end_line, port_text, printed};
 
 use kinds::Out;
 use lists::{Bytes, Memory};
@@ -27,19 +27,86 @@ pub fn out_text(alloc: Global, out: &Out) -> Result<Bytes, Memory>
     Ok(text)
 }
 
-// `answer STATUS BODY`.
 fn push_out(out: &Out, text: &mut Bytes) -> Result<(), Memory>
     ensures { OnOk result (text.new ≡ text.old ++ printed out.now) }
 {
     match out {
-        Out::Answer { status, body } => {
-            text.extend_from_slice(b"answer ")?;
-            text.push_decimal(u64::from(*status))?;
-            text.push(b' ')?;
-            text.extend_from_slice(body.as_slice())?;
-            text.push(b'\n')
+        Out::Hang { call } => push_hang(*call, text),
+        Out::Answer { status, body } => push_answer(*status, body.as_slice(), text),
+        Out::Call {
+            call,
+            host,
+            port,
+            path,
+            body,
+            ..
+        } => {
+            push_address(*call, host.as_slice(), *port, text)?;
+            push_request(path.as_slice(), body.as_slice(), text)
         }
     }
+}
+
+// `hang N`.
+fn push_hang(call: u64, text: &mut Bytes) -> Result<(), Memory>
+    ensures { OnOk result (text.new ≡ text.old ++ codes "hang " ++ decimal call ++ codes "\n") }
+{
+    text.extend_from_slice(b"hang ")?;
+    text.push_decimal(call)?;
+    text.push(b'\n')
+}
+
+// `answer STATUS BODY`, or `answer STATUS` where there is no body.
+fn push_answer(status: u16, body: &[u8], text: &mut Bytes) -> Result<(), Memory>
+    ensures { OnOk result
+        (text.new ≡ text.old ++ codes "answer " ++ decimal status ++ body_text body.now ++ codes "\n") }
+{
+    text.extend_from_slice(b"answer ")?;
+    text.push_decimal(u64::from(status))?;
+    push_body(body, text)?;
+    text.push(b'\n')
+}
+
+fn push_body(body: &[u8], text: &mut Bytes) -> Result<(), Memory>
+    ensures { OnOk result (text.new ≡ text.old ++ body_text body.now) }
+{
+    if !body.is_empty() {
+        text.push(b' ')?;
+        text.extend_from_slice(body)?;
+    }
+    Ok(())
+}
+
+// `call N POST http://HOST`, with `:PORT` where it isn't 80.
+fn push_address(call: u64, host: &[u8], port: u16, text: &mut Bytes) -> Result<(), Memory>
+    ensures { OnOk result (text.new ≡ text.old ++
+        codes "call " ++ decimal call ++ codes " POST http://" ++ host.now ++ port_text port) }
+{
+    text.extend_from_slice(b"call ")?;
+    text.push_decimal(call)?;
+    text.extend_from_slice(b" POST http://")?;
+    text.extend_from_slice(host)?;
+    push_port(port, text)
+}
+
+fn push_port(port: u16, text: &mut Bytes) -> Result<(), Memory>
+    ensures { OnOk result (text.new ≡ text.old ++ port_text port) }
+{
+    if port != 80 {
+        text.push(b':')?;
+        text.push_decimal(u64::from(port))?;
+    }
+    Ok(())
+}
+
+// The path with the query, and the body.
+fn push_request(path: &[u8], body: &[u8], text: &mut Bytes) -> Result<(), Memory>
+    ensures { OnOk result (text.new ≡ text.old ++ path.now ++ codes " " ++ body.now ++ codes "\n") }
+{
+    text.extend_from_slice(path)?;
+    text.push(b' ')?;
+    text.extend_from_slice(body)?;
+    text.push(b'\n')
 }
 
 /// The last line of a script's run: `end inputs=N live=L moment=M`.

@@ -3,14 +3,12 @@ ghost use Rattle.std.specs.Prelude.{◌≡◌, ◌<◌, ◌≤◌, ◌+◌, ◌�
 ghost use Rattle.std.specs.Option.{is_none};
 ghost use Rattle.machine_model.specs.Machine.{Accepts, refusal, step};
 ghost use Rattle.replay_core.specs.Accepted.{is_accepted};
-ghost use Rattle.replay_core.specs.Line.{read_line};
-ghost use Rattle.replay_core.specs.Pieces.{text_of_line};
-ghost use Rattle.replay_core.specs.Replay.{Goes, counted, end_line, on_input, on_line, printed, refused, start, taken};
+ghost use Rattle.replay_core.specs.Replay.{Goes, counted, end_line, grammar_after, line_read, on_input, on_line, printed, refused, start, taken};
 ghost use Rattle.replay_core.specs.Run.{RunsAs};
 ghost use Rattle.replay_core.specs.declared.end.LineFault.TheVariants as fault;
 
 use crate::end::LineFault;
-use crate::line::{Line, read_line, text_of_line};
+use crate::line::{Grammar, Line, read_line, text_of_line};
 use crate::printing::{end_line, out_text, outs_text};
 use kinds::{Input, Limits, Out, Refusal};
 use lists::{Bytes, Memory};
@@ -27,6 +25,7 @@ const SCRIPT_LIMIT: usize = 1_048_576;
 pub struct Progress {
     alloc: Global,
     machine: Machine,
+    grammar: Grammar,
     lines: u64,
     room: usize,
 }
@@ -37,7 +36,7 @@ impl Model for Progress {
 
     ghost Value = { Stand };
 
-    ghost view = { λ p. record { state = p.machine; lines = p.lines; room = p.room } };
+    ghost view = { λ p. record { state = p.machine; grammar = p.grammar; lines = p.lines; room = p.room } };
 
     ghost invariant = { λ p. p.lines + p.room ≤ 1048576 };
 }
@@ -61,6 +60,7 @@ impl Progress {
         Ok(Progress {
             alloc,
             machine: Machine::empty(alloc, Limits::shipped())?,
+            grammar: Grammar::Whole,
             lines: 0,
             room: SCRIPT_LIMIT,
         })
@@ -87,13 +87,13 @@ impl Progress {
         requires room { length line.now ≤ self.room }
         ensures run { RunsAs (on_line self line.now) result }
         ensures accepted { MatchResult result
-            (λ ran. ran.accepted ≡ is_accepted self.state (read_line (text_of_line line.now)))
-            (λ e. (e ≡ fault.Memory) ⊎ (is_accepted self.state (read_line (text_of_line line.now)) ≡ false)) }
+            (λ ran. ran.accepted ≡ is_accepted self.state (line_read self line.now))
+            (λ e. (e ≡ fault.Memory) ⊎ (is_accepted self.state (line_read self line.now) ≡ false)) }
         ensures room { IfOk result (λ ran. ran.progress.room + length line.now ≡ self.room) }
         ensures fits { IfOk result (λ _. length line.now ≤ 1048576) }
     {
         let counted = self.count_line(line.len());
-        match read_line(counted.alloc, text_of_line(line))? {
+        match read_line(counted.alloc, counted.grammar, text_of_line(line))? {
             None => Err(LineFault::Outside {
                 line: counted.lines,
             }),
@@ -128,7 +128,8 @@ impl Progress {
 
     // A line that is answered, and changes nothing.
     fn say(self, out: &Out) -> Result<Ran, Memory>
-        ensures { IfOk result (λ ran. (ran.progress ≡ self) × (ran.text ≡ printed out.now) × (ran.accepted ≡ false)) }
+        ensures { IfOk result
+            (λ ran. (ran.progress ≡ self) × (ran.text ≡ printed out.now) × (ran.accepted ≡ false)) }
     {
         let text = out_text(self.alloc, out)?;
         Ok(Ran {
@@ -160,7 +161,13 @@ impl Progress {
     {
         match cause {
             Refusal::NumbersSpent { .. } => Err(LineFault::Spent),
-            Refusal::KeptFull { .. } => {
+            Refusal::UnknownCall { .. } | Refusal::UnknownRun { .. } => {
+                Err(LineFault::Outside { line: self.lines })
+            }
+            Refusal::KeptFull { .. }
+            | Refusal::RunsFull { .. }
+            | Refusal::FunctionsFull { .. }
+            | Refusal::RunEnded { .. } => {
                 let answer = cause.answer(self.alloc)?;
                 Ok(self.say(&answer)?)
             }
@@ -170,10 +177,12 @@ impl Progress {
     // Takes an accepted input.
     fn take_accepted(mut self, input: Input) -> Result<Ran, Memory>
         requires { Accepts self.state input }
-        ensures run { IfOk result (λ ran. taken self (step self.state input) ≡ Goes ran.progress ran.text) }
+        ensures run { IfOk result
+            (λ ran. taken self input (step self.state input) ≡ Goes ran.progress ran.text) }
         ensures accepted { IfOk result (λ ran. ran.accepted ≡ true) }
         ensures room { IfOk result (λ ran. ran.progress.room ≡ self.room) }
     {
+        self.grammar = grammar_after(&input, self.grammar);
         let (machine, outs) = self.machine.step(input)?;
         self.machine = machine;
         let text = outs_text(self.alloc, outs.as_slice())?;
@@ -189,5 +198,15 @@ impl Progress {
         ensures { IfOk result (λ text. text ≡ end_line self.now.state) }
     {
         end_line(self.alloc, &self.machine)
+    }
+}
+
+// Which lines there are behind an input.
+fn grammar_after(input: &Input, grammar: Grammar) -> Grammar
+    ensures { result ≡ grammar_after input.now grammar }
+{
+    match input {
+        Input::Register { .. } => Grammar::WithoutEvents,
+        _ => grammar,
     }
 }

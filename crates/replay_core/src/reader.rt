@@ -60,7 +60,8 @@ impl LineReader {
     /// Takes what was read up to the end of the line, and says whether that has come.
     pub fn end_line(&mut self) -> Result<bool, Memory>
         requires { IsUnended self.old.line }
-        ensures moved { OnOk result (self.new.line ++ self.new.unread ≡ self.old.line ++ self.old.unread) }
+        ensures moved { OnOk result
+            (self.new.line ++ self.new.unread ≡ self.old.line ++ self.old.unread) }
         ensures ended { IfOk result (λ ended. MatchBool ended
             (IsEnded self.new.line × (length self.new.unread < length self.old.unread))
             (IsUnended self.new.line × (self.new.unread ≡ []))) }
@@ -91,9 +92,12 @@ impl LineReader {
     /// Reads once, behind bytes of which each was taken, and says whether the source has ended.
     pub fn read<I: Source>(&mut self, input: &mut I) -> Result<bool, ReadFailed>
         ensures line { self.new.line ≡ self.old.line }
-        ensures reads { OnOk result (ReadsOn self.new.unread (I.incoming input.old) (I.incoming input.new)) }
-        ensures over { IfOk result (λ over. MatchBool over (self.new.unread ≡ []) (0 < length self.new.unread)) }
-        ensures failed { OnErr result (I.incoming input.new ≡ after_failed_read (I.incoming input.old)) }
+        ensures reads { OnOk result
+            (ReadsOn self.new.unread (I.incoming input.old) (I.incoming input.new)) }
+        ensures over { IfOk result
+            (λ over. MatchBool over (self.new.unread ≡ []) (0 < length self.new.unread)) }
+        ensures failed { OnErr result
+            (I.incoming input.new ≡ after_failed_read (I.incoming input.old)) }
     {
         let count = input.read(self.buffer.as_mut_slice())?;
         self.start = 0;

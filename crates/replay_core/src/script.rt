@@ -33,7 +33,7 @@ pub fn run_script<I: Source, O: Sink>(alloc: Global, input: &mut I, out: &mut O)
 
 /// The same over a blank rig, in whose file A the journal keeps the accepted lines, each without the byte
 /// that ends it. Nothing is printed of a line that file A doesn't have, and at the end all that it has is
-/// on the disk. Want of memory of the rig's own is answered as such.
+/// on the disk, but where memory ran out. Want of memory of the rig's own is answered as such.
 pub fn run_lines<I: Source, O: Sink>(
     alloc: Global,
     rig: &mut MemRig,
@@ -76,7 +76,8 @@ fn write_said<O: Sink>(said: &mut Bytes, out: &mut O) -> Result<(), WriteFailed>
 // The same once enough has gathered.
 fn write_full<O: Sink>(said: &mut Bytes, out: &mut O) -> Result<(), WriteFailed>
     ensures some { OnOk result (Writes (O.outgoing out.old) (O.outgoing out.new) said.old said.new) }
-    ensures failed { OnErr result ((said.new ≡ []) × FailsWriting said.old (O.outgoing out.old) (O.outgoing out.new)) }
+    ensures failed { OnErr result
+        ((said.new ≡ []) × FailsWriting said.old (O.outgoing out.old) (O.outgoing out.new)) }
 {
     if said.len() < SAID_SIZE {
         return Ok(());
@@ -94,8 +95,10 @@ fn run_all<I: Source, O: Sink>(
 ) -> Result<(), RunFault>
     requires blank { IsBlank rig.old }
     requires silent { said.old ≡ [] }
-    ensures run { HasRun (I.incoming input.old) (I.incoming input.new) (O.outgoing out.old) (O.outgoing out.new) said.new (end_of result) }
-    ensures log { HasLogged (I.incoming input.old) (O.outgoing out.old) (O.outgoing out.new) said.new rig.old rig.new (end_of result) }
+    ensures run { HasRun (I.incoming input.old) (I.incoming input.new) (O.outgoing out.old)
+        (O.outgoing out.new) said.new (end_of result) }
+    ensures log { HasLogged (I.incoming input.old) (O.outgoing out.old) (O.outgoing out.new)
+        said.new rig.old rig.new (end_of result) }
 {
     let mut logged = Logged::start(alloc, rig)?;
     let mut lines = LineReader::new(alloc)?;

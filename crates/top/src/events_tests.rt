@@ -73,7 +73,7 @@ fn bodies(rt: HostRuntime) -> Result<(), Fail> {
             Status::Script { line: 1 },
         ),
         (
-            b"0 REGISTER {}\n",
+            b"0 REGISTRATION {}\n",
             "script fault in line 1\n",
             Status::Script { line: 1 },
         ),

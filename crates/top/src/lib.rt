@@ -15,4 +15,6 @@ mod events_tests;
 #[cfg(test)]
 mod journal_tests;
 #[cfg(test)]
+mod registration_tests;
+#[cfg(test)]
 mod tests;

@@ -19,7 +19,7 @@ returns-in_err-ran-clause-stops c =
     rw (p.1, p.2) (runs-stops c.args.self.progress c.args.line.now c.args.self.journal c.args.rig.now c.in_err-ran.field-0.0 c.requires.room c.requires.logging c.in_err-ran.ensures.accepted)
 
 pub log_line-requires-clause-some : goal.log_line-requires-clause-some
-log_line-requires-clause-some c = λ is. accepted-some c.args.self.progress.state (text_of_line c.args.line.now) (sym is ∙ c.in_ok-ran.ensures.accepted)
+log_line-requires-clause-some c = λ is. accepted-some c.args.self.progress.state c.args.self.progress.grammar (text_of_line c.args.line.now) (sym is ∙ c.in_ok-ran.ensures.accepted)
 
 pub log_line-requires-clause-fits : goal.log_line-requires-clause-fits
 log_line-requires-clause-fits c = let within = text-within c.args.line.now in omega (arith, within, c.in_ok-ran.ensures.fits)

@@ -1,0 +1,9 @@
+pub mod Answers
+pub mod Apps
+pub mod Expressions
+pub mod Faults
+pub mod Flows
+pub mod Functions
+pub mod Members
+pub mod Steps
+pub mod Triggers
