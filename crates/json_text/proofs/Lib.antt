@@ -14,6 +14,7 @@ pub mod Shown
 pub mod Arms
 pub mod Whole
 pub mod Pieces
+pub mod PlainLemmas
 pub mod Writing
 pub mod Named
 pub mod ReadBack

@@ -11,6 +11,7 @@ pub mod Reading
 pub mod Trees
 pub mod Text
 pub mod Texts
+pub mod Plain
 pub mod Splitting
 pub mod Same
 pub mod Canonical

@@ -1,7 +1,9 @@
 -- What the reader of the code holds, as a state of the automaton.
-use Rattle.std.specs.Prelude.{◌≡◌, true, ℕ, ◌≤◌, ◌<◌, List, [], ◌∷◌, ◌++◌, length, take, slice_index, Option, Some, None, Result, Ok, Err, ⊤, ◌⊎◌}
+use Rattle.std.specs.Prelude.{◌≡◌, true, ℕ, ◌≤◌, ◌<◌, List, [], ◌∷◌, ◌++◌, length, take, slice_index}
+use Rattle.std.specs.Prelude.{Option, Some, None, Result, Ok, Err, ⊤, ◌⊎◌}
 use Rattle.json_text.specs.Grammar.{Json, number, Parts, no_parts, part, spelling}
-use Rattle.json_text.specs.Automaton.{Frame, Mode, first, next, after, text_at, character, numeral, word, State, state, token, begin_number, next_stage, may_end, snoc}
+use Rattle.json_text.specs.Automaton.{Frame, Mode, first, next, after, text_at, character, numeral, word, token}
+use Rattle.json_text.specs.Automaton.{State, state, begin_number, next_stage, may_end, snoc}
 use Rattle.json_text.specs.Nodes.{Document}
 use Rattle.json_text.specs.Entries.{bytes_below}
 use Rattle.json_text.specs.Building.{Lies}
@@ -55,7 +57,8 @@ pub record Shows (w : List ℕ) (r : Reader) (s : State) : Type 0 where
   pub lies : Lies w r.builder s.top.turn s.top.parts s.below
 
 -- the automaton's state before the byte at `at`
-pub record Holds (w : List ℕ) (r : Reader) (at byte : ℕ) (m : Mode) (f : Frame) (fs : List Frame) : Type 0 where
+pub record Holds (w : List ℕ) (r : Reader) (at byte : ℕ) (m : Mode) (f : Frame) (fs : List Frame)
+    : Type 0 where
   pub shows : Shows w r (state m f fs)
   pub spelled : take at w ≡ bytes_below fs ++ f.bytes ++ token m
   pub few : length fs ≤ 64
@@ -81,7 +84,9 @@ Answers w at o (Err Memory) r = ⊤
 -- a number or a word begins with this byte
 abbrev pub Begins : ℕ → Option CodeMode → Type 0
 Begins b None = (f : Frame) (fs : List Frame) → begin_number b (next_stage stage.Start b) f fs ≡ None
-Begins b (Some c) = (m : Mode) × IsMode c m × (token m ≡ b ∷ []) × IsToken m × ((f : Frame) (fs : List Frame) → begin_number b (next_stage stage.Start b) f fs ≡ Some (state m f fs))
+Begins b (Some c) =
+    (m : Mode) × IsMode c m × (token m ≡ b ∷ []) × IsToken m
+    × ((f : Frame) (fs : List Frame) → begin_number b (next_stage stage.Start b) f fs ≡ Some (state m f fs))
 
 abbrev pub HasOne : Parts → Type 0
 HasOne js = (j : Json) × (js ≡ part j no_parts)

@@ -1,5 +1,6 @@
 -- The text that a string stands for, and the spelling that is written of a text (RFC 8259, section 7).
-use Rattle.std.specs.Prelude.{◌≡◌, ℕ, ◌+◌, ◌-◌, ◌*◌, ◌/◌, ◌%◌, Bool, cond, ◌&&◌, ◌||◌, nat_le, nat_lt, ◌==◌, List, [], ◌∷◌, ◌++◌, length, take, drop, Option, Some, None, bytes_eq, encode_utf8}
+use Rattle.std.specs.Prelude.{ℕ, ◌+◌, ◌-◌, ◌*◌, ◌/◌, ◌%◌, ◌==◌, nat_le, nat_lt, Bool, cond, ◌&&◌, ◌||◌}
+use Rattle.std.specs.Prelude.{◌≡◌, List, [], ◌∷◌, ◌++◌, length, take, drop, Option, Some, None, bytes_eq, encode_utf8}
 use lib.Utf8.{scalar}
 use Rattle.json_text.specs.Grammar.{Json, spelling, object, is_text}
 use Rattle.json_text.specs.Nodes.{list_of}
@@ -28,7 +29,8 @@ character_bytes c = cond (scalar c) (encode_utf8 c) []
 -- what a backslash and this byte stand for
 abbrev pub short_meaning : ℕ → ℕ
 short_meaning b =
-    cond (b == 0x62) 0x08 (cond (b == 0x66) 0x0c (cond (b == 0x6e) 0x0a (cond (b == 0x72) 0x0d (cond (b == 0x74) 0x09 b))))
+    cond (b == 0x62) 0x08 (cond (b == 0x66) 0x0c (cond (b == 0x6e) 0x0a
+    (cond (b == 0x72) 0x0d (cond (b == 0x74) 0x09 b))))
 
 pub data Escape : Type 0 where
   none : Escape
@@ -47,14 +49,16 @@ text_from unit (a ∷ []) = []
 text_from unit (a ∷ b ∷ []) = []
 text_from unit (a ∷ b ∷ c ∷ []) = []
 text_from unit (a ∷ b ∷ c ∷ d ∷ bs) =
-    cond (is_high_surrogate (code_unit a b c d)) (text_from (low_unit (code_unit a b c d)) bs) (character_bytes (code_unit a b c d) ++ text_from none bs)
+    cond (is_high_surrogate (code_unit a b c d)) (text_from (low_unit (code_unit a b c d)) bs)
+    (character_bytes (code_unit a b c d) ++ text_from none bs)
 text_from (low_unit h) [] = []
 text_from (low_unit h) (s ∷ []) = []
 text_from (low_unit h) (s ∷ u ∷ []) = []
 text_from (low_unit h) (s ∷ u ∷ a ∷ []) = []
 text_from (low_unit h) (s ∷ u ∷ a ∷ b ∷ []) = []
 text_from (low_unit h) (s ∷ u ∷ a ∷ b ∷ c ∷ []) = []
-text_from (low_unit h) (s ∷ u ∷ a ∷ b ∷ c ∷ d ∷ bs) = character_bytes (surrogate_pair h (code_unit a b c d)) ++ text_from none bs
+text_from (low_unit h) (s ∷ u ∷ a ∷ b ∷ c ∷ d ∷ bs) =
+    character_bytes (surrogate_pair h (code_unit a b c d)) ++ text_from none bs
 
 -- what stands between the first byte and the last
 abbrev pub inside : List ℕ → List ℕ
@@ -81,7 +85,8 @@ or_else (Some j) other = Some j
 abbrev pub last_named : List ℕ → List Json → Option Json
 last_named name [] = None
 last_named name (k ∷ []) = None
-last_named name (k ∷ v ∷ rest) = or_else (last_named name rest) (cond (bytes_eq (text_of k) name) (Some v) None)
+last_named name (k ∷ v ∷ rest) =
+    or_else (last_named name rest) (cond (bytes_eq (text_of k) name) (Some v) None)
 
 -- the names and values of an object in turn
 abbrev pub named_parts : Json → List Json

@@ -15,6 +15,7 @@ mod kind;
 mod laws;
 mod members;
 mod number;
+mod plain;
 mod reader;
 mod start;
 mod text;

@@ -4,6 +4,7 @@ ghost use Rattle.json_text.specs.Grammar as json;
 ghost use Rattle.json_text.specs.Splitting.{SplitsFrom, SplitsAfter, Strips, piece_bytes};
 ghost use Rattle.json_text.specs.Text.{IsBegun, text_from, none, backslash, unit, low_unit, inside, text_of, unescaped, quoted, escaped, escaped_byte, hex_value, hex_digit, code_unit, is_high_surrogate, surrogate_pair, short_meaning, character_bytes};
 
+use crate::plain::plain_text;
 use lists::{Bytes, Memory};
 use std::alloc::Global;
 
@@ -25,6 +26,16 @@ struct FirstPiece<'a> {
 pub(crate) fn unescaped(alloc: Global, spelling: &[u8]) -> Result<Bytes, Memory>
     ensures { IfOk result (λ text. text ≡ unescaped spelling.now) }
 {
+    match plain_text(spelling) {
+        Some(text) => Bytes::from_slice(alloc, text),
+        None => unescaped_by_pieces(alloc, spelling),
+    }
+}
+
+/// The same, where the string may have escapes.
+fn unescaped_by_pieces(alloc: Global, spelling: &[u8]) -> Result<Bytes, Memory>
+    ensures { IfOk result (λ text. text ≡ unescaped spelling.now) }
+{
     let mut text = Bytes::new(alloc);
     let mut rest = inside(spelling);
     while let Some(first) = split(rest) {
@@ -36,6 +47,16 @@ pub(crate) fn unescaped(alloc: Global, spelling: &[u8]) -> Result<Bytes, Memory>
 
 /// Whether the string of this spelling stands for the text. Takes no memory.
 pub(crate) fn stands_for(spelling: &[u8], text: &[u8]) -> bool
+    ensures { result ≡ bytes_eq (unescaped spelling.now) text.now }
+{
+    match plain_text(spelling) {
+        Some(inside) => inside == text,
+        None => stands_for_by_pieces(spelling, text),
+    }
+}
+
+/// The same, where the string may have escapes.
+fn stands_for_by_pieces(spelling: &[u8], text: &[u8]) -> bool
     ensures { result ≡ bytes_eq (unescaped spelling.now) text.now }
 {
     let mut text = text;

@@ -4,7 +4,7 @@ use Rattle.std.specs.Prelude.{bytes_eq}
 use Rattle.json_text.specs.Splitting.{piece_bytes}
 use Rattle.json_text.specs.Text.{text_from, none}
 use Rattle.json_text.proofs.Writing.{same-front}
-use Rattle.json_text.proofs.text.stands_for.Goals as goal
+use Rattle.json_text.proofs.text.stands_for_by_pieces.Goals as goal
 
 pub loop-first-preserved : goal.loop-first-preserved
 loop-first-preserved c = c.loop-first.invariant ∙ ap (λ t. bytes_eq t c.loop-first.text.now) c.in-Some.ensures.0
