@@ -4,4 +4,3 @@ pub mod Delay
 pub mod Operations
 pub mod Ops
 pub mod Outcome
-pub mod Plain

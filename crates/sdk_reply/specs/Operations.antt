@@ -1,11 +1,14 @@
--- The operations that a reply asks for: objects with a step's name as `id`, the kind as `op`, and the parts of that kind.
-use Rattle.std.specs.Prelude.{ℕ, List, [], ◌∷◌, codes, if◌then◌else◌, Option, Some, None, Result, Ok, Err, option_map, option_and_then}
+-- The operations that a reply asks for: objects with a step's name as `id`, the kind as `op`, and the parts of
+-- that kind.
+use Rattle.std.specs.Prelude.{ℕ, List, [], ◌∷◌, codes, if◌then◌else◌}
+use Rattle.std.specs.Prelude.{Option, Some, None, Result, Ok, Err, option_map, option_and_then}
 use Rattle.cel_parse.specs.Faults.{parse_text}
 use Rattle.cel_parse.specs.declared.fault.ParseFault.{ParseFault}
 use Rattle.json_text.specs.Grammar.{Json, text, spelling}
 use Rattle.json_text.specs.Text.{has_text, member_of, or_else, unescaped}
 use Rattle.kinds.specs.declared.reply.Op.{Op}
-use Rattle.kinds.specs.declared.reply.Op.TheVariants.{StepRun, StepError, StepPlanned, Sleep, WaitForEvent, InvokeFunction}
+use Rattle.kinds.specs.declared.reply.Op.TheVariants.{StepRun, StepError, StepPlanned}
+use Rattle.kinds.specs.declared.reply.Op.TheVariants.{Sleep, WaitForEvent, InvokeFunction}
 use Rattle.kinds.specs.declared.reply.Time.{Time}
 use Rattle.kinds.specs.declared.reply.Time.TheVariants.{Span, At}
 use Rattle.step_ids.specs.Step.{is_step_name}
@@ -107,32 +110,44 @@ wait_where hash event timeout (Valid condition) = Some (WaitForEvent hash event 
 wait_where hash event timeout Invalid = None
 
 abbrev pub wait_until : List ℕ → Json → List ℕ → Time → Option Op
-wait_until hash j event timeout = wait_where hash event timeout (optional_condition (option_of j (codes "if")))
+wait_until hash j event timeout =
+    wait_where hash event timeout (optional_condition (option_of j (codes "if")))
 
 abbrev pub wait_for : List ℕ → Json → List ℕ → Option Op
 wait_for hash j event = option_and_then (wait_until hash j event) (time_in (option_of j (codes "timeout")))
 
--- a name in `opts.event`, or else in `name`, a time in `opts.timeout`, and optionally an expression in `opts.if`
+-- a name in `opts.event`, or else in `name`, a time in `opts.timeout`, and optionally an expression in
+-- `opts.if`
 abbrev pub wait_for_event : List ℕ → Json → Option Op
 wait_for_event hash j = option_and_then (wait_for hash j) (name_in (option_or_name j (codes "event")))
 
 abbrev pub invoke_within : List ℕ → List ℕ → Option (List ℕ) → Part Time → Option Op
 invoke_within hash function payload Absent = Some (InvokeFunction hash function payload None)
-invoke_within hash function payload (Valid timeout) = Some (InvokeFunction hash function payload (Some timeout))
+invoke_within hash function payload (Valid timeout) =
+    Some (InvokeFunction hash function payload (Some timeout))
 invoke_within hash function payload Invalid = None
 
 abbrev pub invoke : List ℕ → Json → List ℕ → Option Op
-invoke hash j function = invoke_within hash function (slice_in (option_of j (codes "payload"))) (optional_time (option_of j (codes "timeout")))
+invoke hash j function =
+    invoke_within hash function (slice_in (option_of j (codes "payload")))
+    (optional_time (option_of j (codes "timeout")))
 
 -- a text in `opts.function_id`, and optionally any value in `opts.payload` and a time in `opts.timeout`
 abbrev pub invoke_function : List ℕ → Json → Option Op
 invoke_function hash j = option_and_then (invoke hash j) (text_in (option_of j (codes "function_id")))
 
--- by the text of `op`; what a step gave stands in `data` or `error`
+-- what a step gave stands in `data` or `error`
+abbrev pub step_run : List ℕ → Json → Option Op
+step_run hash j = Some (StepRun hash (slice_or_null (member_of j (codes "data"))))
+
+abbrev pub step_error : List ℕ → Json → Option Op
+step_error hash j = Some (StepError hash (slice_or_null (member_of j (codes "error"))))
+
+-- by the text of `op`
 abbrev pub op_named : List ℕ → Json → Json → Option Op
 op_named hash j op =
-    if has_text (codes "StepRun") op then Some (StepRun hash (slice_or_null (member_of j (codes "data"))))
-    else if has_text (codes "StepError") op then Some (StepError hash (slice_or_null (member_of j (codes "error"))))
+    if has_text (codes "StepRun") op then step_run hash j
+    else if has_text (codes "StepError") op then step_error hash j
     else if has_text (codes "StepPlanned") op then Some (StepPlanned hash)
     else if has_text (codes "Sleep") op then sleep hash j
     else if has_text (codes "WaitForEvent") op then wait_for_event hash j

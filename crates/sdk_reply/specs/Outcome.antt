@@ -1,5 +1,6 @@
 -- What a reply means, by its status.
-use Rattle.std.specs.Prelude.{ℕ, Bool, false, List, ◌++◌, ◌==◌, codes, decimal, length, nat_lt, unwrap_or, if◌then◌else◌, Option, Some, None, Result, Ok, Err}
+use Rattle.std.specs.Prelude.{ℕ, Bool, false, List, ◌++◌, ◌==◌, codes, decimal, length, nat_lt}
+use Rattle.std.specs.Prelude.{unwrap_or, if◌then◌else◌, Option, Some, None, Result, Ok, Err}
 use Rattle.json_text.specs.Grammar.{Json, array, object, spelling}
 use Rattle.json_text.specs.Nodes.{Document, item_nodes}
 use Rattle.json_text.specs.Texts.{read_text}
@@ -21,7 +22,9 @@ says_no_retry reply = unwrap_or reply.no_retry false
 
 -- not readable from this place of the body on
 abbrev pub unreadable : ReplyIn → ℕ → Outcome
-unreadable reply at = if says_no_retry reply then NoRetry (error_object (codes "unreadable reply")) else Unreadable at
+unreadable reply at =
+    if says_no_retry reply then NoRetry (error_object (codes "unreadable reply"))
+    else Unreadable at
 
 -- where a body isn't JSON
 abbrev pub place_of : JsonFault → ℕ
@@ -46,7 +49,8 @@ ops_from reply (Ok ops) = Ops ops (says_no_retry reply) (after_field reply.retry
 ops_from reply (Err (fault.NotValid at)) = unreadable reply at
 ops_from reply (Err fault.Memory) = unreadable reply 0
 
--- the items of an array, whose node is the first of all; what is no array isn't readable from its first byte on
+-- the items of an array, whose node is the first of all; what is no array isn't readable from the first byte of
+-- the body on
 abbrev pub ops_in : ReplyIn → Document → Json → Outcome
 ops_in reply d (array w parts) = ops_from reply (ops_at d (item_nodes d 0))
 ops_in reply d _ = unreadable reply 0
@@ -71,7 +75,9 @@ abbrev pub status_error : ℕ → List ℕ
 status_error status = error_object (codes "status " ++ decimal status)
 
 abbrev pub object_error : List ℕ → List ℕ
-object_error written = if nat_lt most_error (length written) then error_object (codes "error too large") else written
+object_error written =
+    if nat_lt most_error (length written) then error_object (codes "error too large")
+    else written
 
 -- an object, and else the status
 abbrev pub json_error : ℕ → Json → List ℕ
@@ -91,9 +97,14 @@ fails_for_good (Some said) status = said
 fails_for_good None status = status == 400
 
 abbrev pub failed : ReplyIn → Outcome
-failed reply = if fails_for_good reply.no_retry reply.status then NoRetry (error_of reply) else Retry (after_field reply.retry) (error_of reply)
+failed reply =
+    if fails_for_good reply.no_retry reply.status then NoRetry (error_of reply)
+    else Retry (after_field reply.retry) (error_of reply)
 
 -- ## All
 
 unfoldable pub outcome_of : ReplyIn → Outcome
-outcome_of reply = if reply.status == 200 then ended reply else if reply.status == 206 then goes_on reply else failed reply
+outcome_of reply =
+    if reply.status == 200 then ended reply
+    else if reply.status == 206 then goes_on reply
+    else failed reply

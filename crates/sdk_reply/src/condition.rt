@@ -23,7 +23,7 @@ pub(crate) fn optional_condition(
     if node.is_none() {
         return Ok(Part::Absent);
     }
-    match text_in(alloc, tree, node)? {
+    match text_in(tree, node)? {
         Some(text) => parsed(alloc, text.as_slice()),
         None => Ok(Part::Invalid),
     }

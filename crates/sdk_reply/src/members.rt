@@ -1,8 +1,6 @@
 ghost use Rattle.std.specs.Prelude.{◌≡◌, IfOk, IfSome, codes, option_map};
-ghost use Rattle.json_text.specs.Nodes.{IsNodeOf, kind_of, value_at};
-ghost use Rattle.json_text.specs.Text.{member_of, text_of, unescaped};
-ghost use Rattle.json_text.specs.declared.kind.Kind.TheVariants as kind;
-ghost use Rattle.sdk_reply.specs.Plain.{is_no_escape, is_plain};
+ghost use Rattle.json_text.specs.Nodes.{IsNodeOf, value_at};
+ghost use Rattle.json_text.specs.Text.{member_of, unescaped};
 ghost use Rattle.sdk_reply.specs.Operations.{as_hash, as_name, hash_in, name_in, option_of, option_or_name, slice_in, slice_or_null, text_in};
 
 use json_text::{Kind, Node, Tree};
@@ -44,64 +42,23 @@ pub(crate) fn option_or_name(tree: &Tree<'_>, node: Node, name: &[u8]) -> Option
     }
 }
 
-/// What stands between the quotes of a string, where it stands for itself.
-pub(crate) fn plain(spelling: &[u8]) -> Option<&[u8]>
-    ensures { IfSome result (λ text. text.now ≡ unescaped spelling.now) }
-{
-    match spelling {
-        [_, inside @ .., _] if is_plain(inside) => Some(inside),
-        _ => None,
-    }
-}
-
-fn is_plain(text: &[u8]) -> bool
-    ensures { result ≡ is_plain text.now }
-{
-    text.iter().all(|byte| is_no_escape(*byte))
-}
-
-fn is_no_escape(byte: u8) -> bool
-    ensures { result ≡ is_no_escape byte }
-{
-    byte != b'\\'
-}
-
 /// A text, unescaped.
-pub(crate) fn text_in(
-    alloc: Global,
-    tree: &Tree<'_>,
-    node: Option<Node>,
-) -> Result<Option<Bytes>, Memory>
+pub(crate) fn text_in(tree: &Tree<'_>, node: Option<Node>) -> Result<Option<Bytes>, Memory>
     requires { IfSome node (IsNodeOf tree.now) }
     ensures { IfOk result (λ text. text ≡ text_in (option_map (value_at tree.now) node)) }
 {
     match node {
-        Some(node) if tree.kind(node) == Kind::Text => Ok(Some(text_of(alloc, tree, node)?)),
+        Some(node) if tree.kind(node) == Kind::Text => Ok(Some(tree.text_of(node)?)),
         _ => Ok(None),
     }
 }
 
-fn text_of(alloc: Global, tree: &Tree<'_>, node: Node) -> Result<Bytes, Memory>
-    requires node { IsNodeOf tree.now node }
-    requires text { kind_of (value_at tree.now node) ≡ kind.Text }
-    ensures { IfOk result (λ text. text ≡ text_of (value_at tree.now node)) }
-{
-    match plain(tree.slice(node)) {
-        Some(text) => Bytes::from_slice(alloc, text),
-        None => tree.text_of(node),
-    }
-}
-
 /// A text that isn't empty.
-pub(crate) fn name_in(
-    alloc: Global,
-    tree: &Tree<'_>,
-    node: Option<Node>,
-) -> Result<Option<Bytes>, Memory>
+pub(crate) fn name_in(tree: &Tree<'_>, node: Option<Node>) -> Result<Option<Bytes>, Memory>
     requires { IfSome node (IsNodeOf tree.now) }
     ensures { IfOk result (λ name. name ≡ name_in (option_map (value_at tree.now) node)) }
 {
-    match text_in(alloc, tree, node)? {
+    match text_in(tree, node)? {
         Some(text) => Ok(as_name(text)),
         None => Ok(None),
     }
@@ -148,20 +105,9 @@ pub(crate) fn hash_in(tree: &Tree<'_>, node: Option<Node>) -> Result<Option<Step
     requires { IfSome node (IsNodeOf tree.now) }
     ensures { IfOk result (λ hash. hash ≡ hash_in (option_map (value_at tree.now) node)) }
 {
-    match node {
-        Some(node) if tree.kind(node) == Kind::Text => hash_of(tree, node),
-        _ => Ok(None),
-    }
-}
-
-fn hash_of(tree: &Tree<'_>, node: Node) -> Result<Option<StepHash>, Memory>
-    requires node { IsNodeOf tree.now node }
-    requires text { kind_of (value_at tree.now node) ≡ kind.Text }
-    ensures { IfOk result (λ hash. hash ≡ as_hash (text_of (value_at tree.now node))) }
-{
-    match plain(tree.slice(node)) {
-        Some(text) => Ok(as_hash(text)),
-        None => Ok(as_hash(tree.text_of(node)?.as_slice())),
+    match text_in(tree, node)? {
+        Some(text) => Ok(as_hash(text.as_slice())),
+        None => Ok(None),
     }
 }
 

@@ -91,7 +91,7 @@ fn wait_for_event(
     requires { IsNodeOf tree.now node }
     ensures { IfOk result (λ op. op ≡ wait_for_event hash (value_at tree.now node)) }
 {
-    match name_in(alloc, tree, option_or_name(tree, node, b"event"))? {
+    match name_in(tree, option_or_name(tree, node, b"event"))? {
         Some(event) => wait_for(alloc, tree, node, hash, event),
         None => Ok(None),
     }
@@ -153,7 +153,7 @@ fn invoke_function(
     requires { IsNodeOf tree.now node }
     ensures { IfOk result (λ op. op ≡ invoke_function hash (value_at tree.now node)) }
 {
-    match text_in(alloc, tree, option_of(tree, node, b"function_id"))? {
+    match text_in(tree, option_of(tree, node, b"function_id"))? {
         Some(function) => invoke(alloc, tree, node, hash, function),
         None => Ok(None),
     }
