@@ -1,9 +1,8 @@
 -- A text without escapes stands for itself.
-use Rattle.std.proofs.Common.{◌≡◌, refl, ap, ◌∙◌, sym, arith, ℕ, ◌==◌, ◌-◌, Bool, true, false, cond}
-use Rattle.std.proofs.Common.{List, [], ◌∷◌, length, take, drop}
+use Rattle.std.proofs.Common.{◌≡◌, refl, ap, ◌∙◌, sym, ℕ, ◌==◌, Bool, true, false, cond, List, [], ◌∷◌}
 use Rattle.std.specs.Prelude.{not}
 use Rattle.json_text.proofs.Booleans.{and_left, and_right}
-use Rattle.json_text.specs.Text.{backslash, none, text_from, unescaped}
+use Rattle.json_text.specs.Text.{backslash, inside, none, text_from, unescaped}
 use Rattle.json_text.specs.Plain.{is_no_escape, is_plain}
 
 no-escape : (b : Bool) → not b ≡ true → b ≡ false
@@ -18,9 +17,5 @@ plain-text (b ∷ bs) h =
     (no-escape (b == 0x5c) (and_left (is_no_escape b) (is_plain bs) h))
     ∙ ap (λ (t : List ℕ). b ∷ t) (plain-text bs (and_right (is_no_escape b) (is_plain bs) h))
 
-pub plain-spelling : (w : List ℕ) → is_plain (take (length w - 1 - 1) (drop 1 w)) ≡ true
-    → take (length w - 1 - 1) (drop 1 w) ≡ unescaped w
-plain-spelling w h =
-    let same : length w - 1 - 1 ≡ length w - 2 = omega arith in
-    sym (plain-text (take (length w - 1 - 1) (drop 1 w)) h)
-    ∙ ap (λ (n : ℕ). text_from none (take n (drop 1 w))) same
+pub plain-spelling : (w : List ℕ) → is_plain (inside w) ≡ true → inside w ≡ unescaped w
+plain-spelling w h = sym (plain-text (inside w) h)

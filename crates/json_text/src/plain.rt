@@ -1,14 +1,23 @@
-ghost use Rattle.std.specs.Prelude.{◌≡◌, IfSome};
-ghost use Rattle.json_text.specs.Plain.{is_no_escape, is_plain};
-ghost use Rattle.json_text.specs.Text.{unescaped};
+ghost use Rattle.std.specs.Prelude.{◌≡◌, IfSome, option_map};
+ghost use Rattle.json_text.specs.Plain.{is_no_escape, is_plain, plain_inside};
+ghost use Rattle.json_text.specs.Text.{inside, unescaped};
 
 /// What stands between the quotes of a string, where it has no escape and so stands for itself.
 pub(crate) fn plain_text(spelling: &[u8]) -> Option<&[u8]>
-    ensures { IfSome result (λ text. text.now ≡ unescaped spelling.now) }
+    ensures place { option_map (λ text. text.now) result ≡ plain_inside spelling.now }
+    ensures text { IfSome result (λ text. text.now ≡ unescaped spelling.now) }
+{
+    let text = inside(spelling);
+    if is_plain(text) { Some(text) } else { None }
+}
+
+/// What stands between the quotes of a string.
+pub(crate) fn inside(spelling: &[u8]) -> &[u8]
+    ensures { result.now ≡ inside spelling.now }
 {
     match spelling {
-        [_, inside @ .., _] if is_plain(inside) => Some(inside),
-        _ => None,
+        [_, inside @ .., _] => inside,
+        _ => &[],
     }
 }
 

@@ -223,6 +223,25 @@ fn texts(rt: HostRuntime) -> Result<(), Fail> {
     Ok(())
 }
 
+/// The text of the whole, where it is a string without escapes.
+fn plain_root<'a>(tree: &Tree<'a>) -> Option<&'a [u8]> {
+    let root = tree.root();
+    if tree.kind(root) == Kind::Text {
+        tree.plain_text(root)
+    } else {
+        None
+    }
+}
+
+#[test]
+fn plain_texts(rt: HostRuntime) -> Result<(), Fail> {
+    let tree = Tree::read(rt.alloc(), b" \"ab\" ")?;
+    assert!(&rt; plain_root(&tree) == Some(b"ab".as_slice()));
+    let escaped = Tree::read(rt.alloc(), b"\"a\\u0062\"")?;
+    assert!(&rt; plain_root(&escaped).is_none());
+    Ok(())
+}
+
 #[test]
 fn written(rt: HostRuntime) -> Result<(), Fail> {
     let mut out = Bytes::new(rt.alloc());

@@ -4,7 +4,7 @@ ghost use Rattle.json_text.specs.Grammar as json;
 ghost use Rattle.json_text.specs.Splitting.{SplitsFrom, SplitsAfter, Strips, piece_bytes};
 ghost use Rattle.json_text.specs.Text.{IsBegun, text_from, none, backslash, unit, low_unit, inside, text_of, unescaped, quoted, escaped, escaped_byte, hex_value, hex_digit, code_unit, is_high_surrogate, surrogate_pair, short_meaning, character_bytes};
 
-use crate::plain::plain_text;
+use crate::plain::{inside, plain_text};
 use lists::{Bytes, Memory};
 use std::alloc::Global;
 
@@ -33,6 +33,7 @@ pub(crate) fn unescaped(alloc: Global, spelling: &[u8]) -> Result<Bytes, Memory>
 }
 
 /// The same, where the string may have escapes.
+#[inline(never)]
 fn unescaped_by_pieces(alloc: Global, spelling: &[u8]) -> Result<Bytes, Memory>
     ensures { IfOk result (λ text. text ≡ unescaped spelling.now) }
 {
@@ -56,6 +57,7 @@ pub(crate) fn stands_for(spelling: &[u8], text: &[u8]) -> bool
 }
 
 /// The same, where the string may have escapes.
+#[inline(never)]
 fn stands_for_by_pieces(spelling: &[u8], text: &[u8]) -> bool
     ensures { result ≡ bytes_eq (unescaped spelling.now) text.now }
 {
@@ -69,15 +71,6 @@ fn stands_for_by_pieces(spelling: &[u8], text: &[u8]) -> bool
         rest = first.rest;
     }
     text.is_empty()
-}
-
-fn inside(spelling: &[u8]) -> &[u8]
-    ensures { result.now ≡ inside spelling.now }
-{
-    match spelling {
-        [_, inside @ .., _] => inside,
-        _ => &[],
-    }
 }
 
 /// The first piece of a text, and the spelling of the rest.

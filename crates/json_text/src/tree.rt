@@ -2,6 +2,7 @@ ghost use Rattle.std.specs.Prelude.{◌≡◌, ◌≤◌, Some, if◌then◌else
 ghost use Rattle.json_text.specs.Same.{known};
 
 use crate::entry::Entry;
+use crate::plain::plain_text;
 use crate::reader::Reader;
 use crate::text::{stands_for, unescaped};
 use crate::{ItemNodes, JsonFault, Kind, MemberNodes};
@@ -65,9 +66,10 @@ impl Node {
 }
 
 impl<'a> Tree<'a> {
-    ghost use Rattle.std.specs.Prelude.{◌≡◌, ◌+◌, ◌⊎◌, ◌<◌, IfOk, IfErr, MatchOption, MatchResult, Ok, Err, Some, None, length, map, slice_get};
+    ghost use Rattle.std.specs.Prelude.{◌≡◌, ◌+◌, ◌⊎◌, ◌<◌, IfOk, IfErr, IfSome, MatchOption, MatchResult, Ok, Err, Some, None, length, map, option_map, slice_get};
     ghost use Rattle.json_text.specs.Entries.{IsEntry};
     ghost use Rattle.json_text.specs.Grammar.{IsJson, spelling};
+    ghost use Rattle.json_text.specs.Plain.{plain_text};
     ghost use Rattle.json_text.specs.Text.{has_text, last_named, member_of, text_of};
     ghost use Rattle.json_text.specs.Same.{units_at};
     ghost use Rattle.json_text.specs.Texts.{read_text, value_read};
@@ -240,6 +242,16 @@ impl<'a> Tree<'a> {
         ensures { IfOk result (λ text. text ≡ text_of (value_at self.now node)) }
     {
         unescaped(*self.nodes.allocator(), self.spelling(node.index))
+    }
+
+    /// The text of a string as it stands in the source, where no character of it is escaped. Takes no memory.
+    pub fn plain_text(&self, node: Node) -> Option<&'a [u8]>
+        requires node { IsNodeOf self.now node }
+        requires text { kind_of (value_at self.now node) ≡ kind.Text }
+        ensures place { option_map (λ text. text.now) result ≡ plain_text (value_at self.now node) }
+        ensures text { IfSome result (λ text. text.now ≡ text_of (value_at self.now node)) }
+    {
+        plain_text(self.spelling(node.index))
     }
 
     /// Whether a node is a string whose unescaped text is this. Takes no memory.
