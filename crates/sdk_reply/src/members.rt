@@ -1,6 +1,7 @@
 ghost use Rattle.std.specs.Prelude.{◌≡◌, IfOk, IfSome, codes, option_map};
-ghost use Rattle.json_text.specs.Nodes.{IsNodeOf, value_at};
-ghost use Rattle.json_text.specs.Text.{member_of, unescaped};
+ghost use Rattle.json_text.specs.Nodes.{IsNodeOf, kind_of, value_at};
+ghost use Rattle.json_text.specs.Text.{member_of, text_of, unescaped};
+ghost use Rattle.json_text.specs.declared.kind.Kind.TheVariants as kind;
 ghost use Rattle.sdk_reply.specs.Operations.{as_hash, as_name, hash_in, name_in, option_of, option_or_name, slice_in, slice_or_null, text_in};
 
 use json_text::{Kind, Node, Tree};
@@ -105,9 +106,20 @@ pub(crate) fn hash_in(tree: &Tree<'_>, node: Option<Node>) -> Result<Option<Step
     requires { IfSome node (IsNodeOf tree.now) }
     ensures { IfOk result (λ hash. hash ≡ hash_in (option_map (value_at tree.now) node)) }
 {
-    match text_in(tree, node)? {
-        Some(text) => Ok(as_hash(text.as_slice())),
-        None => Ok(None),
+    match node {
+        Some(node) if tree.kind(node) == Kind::Text => hash_of(tree, node),
+        _ => Ok(None),
+    }
+}
+
+fn hash_of(tree: &Tree<'_>, node: Node) -> Result<Option<StepHash>, Memory>
+    requires node { IsNodeOf tree.now node }
+    requires text { kind_of (value_at tree.now node) ≡ kind.Text }
+    ensures { IfOk result (λ hash. hash ≡ as_hash (text_of (value_at tree.now node))) }
+{
+    match tree.plain_text(node) {
+        Some(text) => Ok(as_hash(text)),
+        None => Ok(as_hash(tree.text_of(node)?.as_slice())),
     }
 }
 

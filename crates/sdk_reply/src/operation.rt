@@ -72,6 +72,7 @@ fn op_named(
     }
 }
 
+#[inline(never)]
 fn sleep(tree: &Tree<'_>, node: Node, hash: StepHash) -> Result<Option<Op>, Memory>
     requires { IsNodeOf tree.now node }
     ensures { IfOk result (λ op. op ≡ sleep hash (value_at tree.now node)) }
@@ -82,6 +83,7 @@ fn sleep(tree: &Tree<'_>, node: Node, hash: StepHash) -> Result<Option<Op>, Memo
     }
 }
 
+#[inline(never)]
 fn wait_for_event(
     alloc: Global,
     tree: &Tree<'_>,
@@ -144,6 +146,7 @@ fn wait_where(hash: StepHash, event: Bytes, timeout: Time, condition: Part<Expr>
     })
 }
 
+#[inline(never)]
 fn invoke_function(
     alloc: Global,
     tree: &Tree<'_>,
