@@ -1,4 +1,4 @@
--- The grammar of expressions: how each tree is spelled, which trees may stand where, and how deep a tree lies.
+-- The grammar of expressions: how each tree is spelled, which trees may stand where, how deep a tree lies.
 use Rattle.std.specs.Prelude.{ℕ, suc, ◌≤◌, ◌<◌, ◌≡◌, true, false, codes, List, [], ◌∷◌, ◌++◌, length, ⊤}
 use Rattle.expr.specs.declared.term.Source.{Source}
 use Rattle.expr.specs.declared.term.Source.TheVariants.{Event, Async}
@@ -67,8 +67,8 @@ abbrev mutual
   spell_all none = []
   spell_all (more ts t) = spell_all ts ++ (comma_behind ts ++ spell t)
 
--- the level of the grammar's rule that makes the tree: `expr` is 0, `or` 1, `and` 2, `rel` 3, `sum` 4, `prod` 5, `unary` 6,
--- `post` 7, `atom` 8
+-- the level of the grammar's rule that makes the tree: `expr` is 0, `or` 1, `and` 2, `rel` 3, `sum` 4, `prod` 5,
+-- `unary` 6, `post` 7, `atom` 8
 abbrev pub rank : Tree → ℕ
 rank (choice c a b) = 0
 rank (binary o a b) = rank_of o
@@ -101,7 +101,8 @@ abbrev mutual
   FitAll none = ⊤
   FitAll (more ts t) = FitAll ts × Fits t
 
--- with `n` open around it, no token of the tree has more than `most`: brackets, arguments, signs and branches count
+-- with `n` open around it, no token of the tree has more than `most`: brackets, arguments, signs and branches
+-- count
 abbrev mutual
   pub Lies : ℕ → ℕ → Tree → Type 0
   Lies most n (group t) = (n < most) × Lies most (suc n) t

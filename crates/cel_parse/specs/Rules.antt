@@ -1,5 +1,6 @@
--- The rules on names and on counts of arguments: another function or method than those that there are, and another count
--- than one, are a fault at the name. They look at the shape of what is open alone, and see as far as the grammar goes.
+-- The rules on names and on counts of arguments: another function or method than those that there are, and
+-- another count than one, are a fault at the name. They look at the shape of what is open alone, and see as far as
+-- the grammar goes.
 use Rattle.std.specs.Prelude.{ℕ, Bool, true, false, cond, min, List, [], ◌∷◌, Option, Some, None, is_some}
 use Rattle.expr.specs.declared.term.Operator.{Operator}
 use Rattle.expr.specs.declared.term.Operator.TheVariants as op
@@ -148,7 +149,8 @@ rules_on least (takes place os s) on = on (lesser least place) os s
 -- the least place of a name that breaks a rule, beside those before
 abbrev pub rules_from : Option ℕ → List Shape → Seat → List Placed → Option ℕ
 rules_from least os s [] = least
-rules_from least os s (p ∷ ps) = rules_on least (take_token os s p) (λ place next_os next. rules_from place next_os next ps)
+rules_from least os s (p ∷ ps) =
+    rules_on least (take_token os s p) (λ place next_os next. rules_from place next_os next ps)
 
 abbrev pub rules_in : List Placed → Option ℕ
 rules_in ps = rules_from None [] seat.Want ps

@@ -32,7 +32,8 @@ impl<'a> Cutter<'a> {
     pub fn next(&mut self, alloc: Global) -> Result<Option<Placed>, Memory>
         ensures whole { self.new.whole ≡ self.old.whole }
         ensures next { IfOk result (λ next. MatchOption next
-            ((on : List ℕ → List PlacedToken) → placed_at self.old.whole (behind_spaces self.old.rest.now) on ≡ [])
+            ((on : List ℕ → List PlacedToken) →
+            placed_at self.old.whole (behind_spaces self.old.rest.now) on ≡ [])
             (λ p. IsNext self.old.whole self.old.rest.now p self.new.rest.now)) }
     {
         let bytes = behind_spaces(self.rest);
@@ -48,7 +49,8 @@ impl<'a> Cutter<'a> {
     fn cut(&mut self, alloc: Global, first: u8, bytes: &'a [u8]) -> Result<Token, Memory>
         requires { (cs : List ℕ) × (bytes.now ≡ first ∷ cs) }
         ensures whole { self.new.whole ≡ self.old.whole }
-        ensures cut { (cs : List ℕ) → bytes.now ≡ first ∷ cs → IfOk result (λ t. cut_at first cs ≡ cut (token_of t) self.new.rest.now) }
+        ensures cut { (cs : List ℕ) → bytes.now ≡ first ∷ cs →
+            IfOk result (λ t. cut_at first cs ≡ cut (token_of t) self.new.rest.now) }
     {
         if first.is_ascii_digit() {
             let (token, rest) = cut_number(bytes);
@@ -170,7 +172,8 @@ fn cut_number(bytes: &[u8]) -> (Token, &[u8])
 /// A sign of two bytes, or of one where the second isn't there.
 fn two(second: u8, both: Token, one: Token, rest: &[u8]) -> (Token, &[u8])
     requires { 0 < second }
-    ensures { cut (token_of result.0) result.1.now ≡ two second (token_of both) (token_of one) rest.now }
+    ensures { cut (token_of result.0) result.1.now ≡
+        two second (token_of both) (token_of one) rest.now }
 {
     if rest.first() == Some(&second) {
         return (both, &rest[1..]);

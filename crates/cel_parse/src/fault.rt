@@ -7,8 +7,8 @@ use std::fmt;
 pub enum ParseFault {
     /// The text has more than 1,024 bytes.
     TooLong,
-    /// The token with which no expression goes on, the name of a function or a method that isn't called so, or the
-    /// length where the text ends early.
+    /// The token with which no expression goes on, the name of a function or a method that isn't called so,
+    /// or the length where the text ends early.
     Syntax { at: u64 },
     /// The token that opens one more than 32.
     TooDeep { at: u64 },

@@ -108,8 +108,10 @@ impl Stack {
     }
 
     pub fn pop(&mut self) -> Option<Frame>
-        ensures top { MatchOption result ((open_in self.old ≡ []) × (open_in self.new ≡ [])) (λ f. open_in self.old ≡ frame_of f ∷ open_in self.new) }
-        ensures fewer { MatchOption result (length (open_in self.new) ≡ 0) (λ f. length (open_in self.new) < length (open_in self.old)) }
+        ensures top { MatchOption result ((open_in self.old ≡ []) × (open_in self.new ≡ []))
+            (λ f. open_in self.old ≡ frame_of f ∷ open_in self.new) }
+        ensures fewer { MatchOption result (length (open_in self.new) ≡ 0)
+            (λ f. length (open_in self.new) < length (open_in self.old)) }
     {
         self.frames.pop()
     }
@@ -126,7 +128,8 @@ impl Stack {
 }
 
 fn join(alloc: Global, frame: Frame, tree: Term, least: u8) -> Result<Joined, AllocError>
-    ensures { IfOk result (λ j. (fs : List Layer) → reduce least (frame_of frame ∷ fs) (tree_of tree) ≡ goes_on least fs j) }
+    ensures { IfOk result (λ j. (fs : List Layer) →
+        reduce least (frame_of frame ∷ fs) (tree_of tree) ≡ goes_on least fs j) }
 {
     match frame {
         Frame::Left(operator, left) => {
@@ -161,7 +164,8 @@ fn join(alloc: Global, frame: Frame, tree: Term, least: u8) -> Result<Joined, Al
 
 /// Puts together what binds at least as strong.
 pub fn reduce(alloc: Global, stack: &mut Stack, tree: Term, least: u8) -> Result<Term, AllocError>
-    ensures { IfOk result (λ t. held (open_in stack.new) (tree_of t) ≡ reduce least (open_in stack.old) (tree_of tree)) }
+    ensures { IfOk result (λ t.
+        held (open_in stack.new) (tree_of t) ≡ reduce least (open_in stack.old) (tree_of tree)) }
 {
     let mut whole = tree;
     while let Some(frame) = stack.pop() {

@@ -1,5 +1,5 @@
-//! Expressions from their texts. Stands on `lists`, `expr` and `text_num`, and promises the tree of each text that the
-//! grammar spells within its limits, and of each other text the fault and its place.
+//! Expressions from their texts. Stands on `lists`, `expr` and `text_num`, and promises the tree of each text
+//! that the grammar spells within its limits, and of each other text the fault and its place.
 #![tactic(auto)]
 
 mod cutter;

@@ -23,8 +23,9 @@ use std::alloc::Global;
 /// The longest text of an expression, in bytes.
 const LONGEST: usize = 1024;
 
-/// Reads an expression: its text and its tree, exactly where there is one. TooLong comes exactly over 1,024 bytes; any other
-/// fault is that of the first token that isn't taken, or a Syntax at the lesser place of a name that breaks a rule.
+/// Reads an expression: its text and its tree, exactly where there is one. TooLong comes exactly over 1,024
+/// bytes; any other fault is that of the first token that isn't taken, or a Syntax at the lesser place of a name
+/// that breaks a rule.
 pub fn parse(alloc: Global, text: &[u8]) -> Result<Expr, ParseFault>
     ensures { OrStarved Memory (parse_text text.now) result }
 {
@@ -48,7 +49,8 @@ fn whole(alloc: Global, text: &[u8], term: Term) -> Result<Expr, ParseFault>
     }
 }
 
-/// The fault with the lesser place, of that of the first token that isn't taken and the rules on names and counts.
+/// The fault with the lesser place, of that of the first token that isn't taken and the rules on names and
+/// counts.
 fn fault_of(alloc: Global, text: &[u8], first: ParseFault) -> ParseFault
     ensures { (settle_fault first (rules_in (placed_tokens text.now)) ≡ result) ⊎ (result ≡ Memory) }
 {
@@ -107,9 +109,11 @@ fn walk(alloc: Global, text: &[u8]) -> Result<Term, ParseFault>
     }
 }
 
-/// Where the fault is if the token isn't taken: at the end for a string that may stand there and isn't closed.
+/// Where the fault is if the token isn't taken: at the end for a string that may stand there and isn't
+/// closed.
 fn refused_place(whole: usize, place: &Place, placed: &Placed) -> usize
-    ensures { (fs : List Layer) → result ≡ refused_place whole (state_of fs place.now) (placed_of placed.now) }
+    ensures { (fs : List Layer) →
+        result ≡ refused_place whole (state_of fs place.now) (placed_of placed.now) }
 {
     match place {
         Place::Want => unclosed_or(whole, placed),

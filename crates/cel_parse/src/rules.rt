@@ -366,7 +366,8 @@ fn take_behind(opens: &mut Opens, token: Token) -> Result<Taken, Memory>
 }
 
 fn take_callable(opens: &mut Opens, callee: Callee, token: Token) -> Result<Taken, Memory>
-    ensures { IfOk result (λ t. taken_of t opens.new ≡ take_callable opens.old callee (token_of token)) }
+    ensures { IfOk result (λ t.
+        taken_of t opens.new ≡ take_callable opens.old callee (token_of token)) }
 {
     match token {
         Token::RoundOpen => begin_call(opens, callee),
@@ -418,7 +419,8 @@ fn lesser(a: Option<usize>, b: Option<usize>) -> Option<usize>
     }
 }
 
-/// The least place of a name that breaks a rule of names or of counts, in the tokens up to where the grammar ends.
+/// The least place of a name that breaks a rule of names or of counts, in the tokens up to where the grammar
+/// ends.
 pub fn least_rule(alloc: Global, text: &[u8]) -> Result<Option<usize>, Memory>
     ensures { IfOk result (λ least. least ≡ rules_in (placed_tokens text.now)) }
 {

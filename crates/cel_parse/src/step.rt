@@ -127,7 +127,8 @@ pub fn is_in(word: &[u8]) -> bool
 }
 
 fn begin_word(word: &[u8]) -> Result<Place, Refusal>
-    ensures { (fs : List Layer) → Answers fs (atom_or_callee fs (atom_of word.now) (callee_of word.now)) result }
+    ensures { (fs : List Layer) →
+        Answers fs (atom_or_callee fs (atom_of word.now) (callee_of word.now)) result }
 {
     if let Some(term) = atom(word) {
         return Ok(Place::Have(term));
@@ -139,7 +140,8 @@ fn begin_word(word: &[u8]) -> Result<Place, Refusal>
 }
 
 fn prefix(stack: &mut Stack, sign: Sign) -> Result<Place, Refusal>
-    ensures { Answers (open_in stack.new) (unless_asked (open_in stack.old) (over deepest (prefix sign) (open_in stack.old))) result }
+    ensures { Answers (open_in stack.new)
+        (unless_asked (open_in stack.old) (over deepest (prefix sign) (open_in stack.old))) result }
 {
     if stack.is_asked() {
         return Err(Refusal::Syntax);
@@ -148,7 +150,8 @@ fn prefix(stack: &mut Stack, sign: Sign) -> Result<Place, Refusal>
 }
 
 fn step_want(alloc: Global, stack: &mut Stack, token: Token) -> Result<Place, Refusal>
-    ensures { Answers (open_in stack.new) (step_want deepest (open_in stack.old) (token_of token)) result }
+    ensures { Answers (open_in stack.new)
+        (step_want deepest (open_in stack.old) (token_of token)) result }
 {
     match token {
         Token::Number(units) => Ok(Place::Have(Term::Number(units))),
@@ -203,7 +206,8 @@ fn list_of(items: Vec<Term>) -> Term
 }
 
 fn step_enter(stack: &mut Stack, frame: Frame, token: Token) -> Result<Place, Refusal>
-    ensures { Answers (open_in stack.new) (step_enter deepest (open_in stack.old) (frame_of frame) (token_of token)) result }
+    ensures { Answers (open_in stack.new)
+        (step_enter deepest (open_in stack.old) (frame_of frame) (token_of token)) result }
 {
     match token {
         Token::RoundOpen => over(stack, frame),
@@ -327,7 +331,8 @@ fn operate(
     operator: Operator,
     tree: Term,
 ) -> Result<Place, Refusal>
-    ensures { Answers (open_in stack.new) (operate operator (held (open_in stack.old) (tree_of tree))) result }
+    ensures { Answers (open_in stack.new)
+        (operate operator (held (open_in stack.old) (tree_of tree))) result }
 {
     if stack.is_asked() {
         return Err(Refusal::Syntax);
@@ -338,7 +343,9 @@ fn operate(
 }
 
 fn question(alloc: Global, stack: &mut Stack, tree: Term) -> Result<Place, Refusal>
-    ensures { Answers (open_in stack.new) (unless_asked (open_in stack.old) (tested deepest (reduce 1 (open_in stack.old) (tree_of tree)))) result }
+    ensures { Answers (open_in stack.new)
+        (unless_asked (open_in stack.old)
+        (tested deepest (reduce 1 (open_in stack.old) (tree_of tree)))) result }
 {
     if stack.is_asked() {
         return Err(Refusal::Syntax);
@@ -360,7 +367,8 @@ fn begin_method(stack: &mut Stack, tree: Term) -> Result<Place, Refusal>
 }
 
 fn step_have(alloc: Global, stack: &mut Stack, tree: Term, token: Token) -> Result<Place, Refusal>
-    ensures { Answers (open_in stack.new) (step_have deepest (held (open_in stack.old) (tree_of tree)) (token_of token)) result }
+    ensures { Answers (open_in stack.new)
+        (step_have deepest (held (open_in stack.old) (tree_of tree)) (token_of token)) result }
 {
     match token {
         Token::Operator(operator) => operate(alloc, stack, operator, tree),
@@ -395,7 +403,8 @@ fn step_have(alloc: Global, stack: &mut Stack, tree: Term, token: Token) -> Resu
 }
 
 fn step_dot(alloc: Global, tree: Term, token: Token) -> Result<Place, Refusal>
-    ensures { (fs : List Layer) → Answers fs (step_dot (held fs (tree_of tree)) (token_of token)) result }
+    ensures { (fs : List Layer) →
+        Answers fs (step_dot (held fs (tree_of tree)) (token_of token)) result }
 {
     match token {
         Token::Word(name) => Ok(Place::Have(Term::Member(Box::new(alloc, tree)?, name))),
@@ -405,7 +414,8 @@ fn step_dot(alloc: Global, tree: Term, token: Token) -> Result<Place, Refusal>
 
 /// Takes a token.
 pub fn step(alloc: Global, stack: &mut Stack, place: Place, token: Token) -> Result<Place, Refusal>
-    ensures { Answers (open_in stack.new) (step deepest (state_of (open_in stack.old) place) (token_of token)) result }
+    ensures { Answers (open_in stack.new)
+        (step deepest (state_of (open_in stack.old) place) (token_of token)) result }
 {
     match place {
         Place::Want => step_want(alloc, stack, token),
