@@ -27,7 +27,7 @@ pub(crate) fn fits(operand: &Operand<'_, '_>) -> Result<bool, Memory>
     }
 }
 
-#[tactic(auto, using(crate::proofs::LoopLemmas::data_step, crate::proofs::LoopLemmas::data_end, crate::proofs::LoopLemmas::list_step, crate::proofs::LoopLemmas::list_end))]
+#[tactic(auto, using(crate::proofs::LoopLemmas::data_step, crate::proofs::LoopLemmas::data_end))]
 #[cycle(fits)]
 fn all_fit(items: &Vec<Operand<'_, '_>>) -> Result<bool, Memory>
     ensures { IfOk result (λ b. b ≡ all_fit (data_of items.now.items)) }
@@ -235,7 +235,7 @@ fn is_string(text: &[u8], right: &Operand<'_, '_>) -> bool
 
 // ---- among the items of a list
 
-#[tactic(auto, using(crate::proofs::LoopLemmas::data_step, crate::proofs::LoopLemmas::data_end, crate::proofs::LoopLemmas::list_step, crate::proofs::LoopLemmas::list_end))]
+#[tactic(auto, using(crate::proofs::LoopLemmas::data_step, crate::proofs::LoopLemmas::data_end))]
 pub(crate) fn is_among(
     operand: &Operand<'_, '_>,
     items: &Vec<Operand<'_, '_>>,

@@ -32,14 +32,14 @@ pub fn eval<L: Ledger>(
     ensures once { steps.new ≡ steps.old + 1 }
 {
     steps.tick();
-    value_over(expr, &Scope::new(alloc, event, fresh))
+    value_over(alloc, expr, &Scope::new(event, fresh))
 }
 
-fn value_over(expr: &Expr, scope: &Scope<'_, '_>) -> Result<Value, EvalFault>
+fn value_over(alloc: Global, expr: &Expr, scope: &Scope<'_, '_>) -> Result<Value, EvalFault>
     ensures value { OrStarved fault.Memory (value_of expr.now scope.now) result }
     ensures units { IfOk result IsInUnits }
 {
-    shown(worth(expr.term(), scope)?, scope.alloc())
+    shown(worth(alloc, expr.term(), scope)?, alloc)
 }
 
 fn shown(operand: Operand<'_, '_>, alloc: Global) -> Result<Value, EvalFault>

@@ -14,7 +14,8 @@ use crate::units::Units;
 use json_text::Kind;
 use lists::Bytes;
 
-/// What a part of an expression is worth. What an event's text holds stays in its place, but for a text with escapes.
+/// What a part of an expression is worth. What an event's text holds stays in its place, but for a text with
+/// escapes.
 #[derive(Drop)]
 pub(crate) enum Operand<'t, 'a> {
     Null,

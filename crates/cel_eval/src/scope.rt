@@ -8,13 +8,11 @@ use crate::operand::Operand;
 use crate::part::Part;
 use expr::Source;
 use json_text::Tree;
-use std::alloc::Global;
 use std::marker::Model;
 
 /// The events that an expression is evaluated over. Contracts see their values.
 #[derive(Drop)]
 pub(crate) struct Scope<'t, 'a> {
-    alloc: Global,
     event: &'t Tree<'a>,
     fresh: Option<&'t Tree<'a>>,
 }
@@ -34,18 +32,10 @@ impl<'t, 'a> Model for Scope<'t, 'a> {
 impl<'t, 'a> Scope<'t, 'a> {
     ghost use Rattle.cel_eval.specs.Data.{over_documents};
 
-    pub(crate) fn new(alloc: Global, event: &'t Tree<'a>, fresh: Option<&'t Tree<'a>>) -> Self
+    pub(crate) fn new(event: &'t Tree<'a>, fresh: Option<&'t Tree<'a>>) -> Self
         ensures { result ≡ over_documents event.now (option_copied fresh.entry) }
     {
-        Scope {
-            alloc,
-            event,
-            fresh,
-        }
-    }
-
-    pub(crate) fn alloc(&self) -> Global {
-        self.alloc
+        Scope { event, fresh }
     }
 
     pub(crate) fn whole(&self, source: Source) -> Result<Operand<'t, 'a>, EvalFault>

@@ -19,6 +19,7 @@ use std::alloc::Global;
 /// at no part that can't count.
 #[cycle(worth)]
 pub(crate) fn worth<'t, 'a>(
+    alloc: Global,
     term: &'t Term,
     scope: &Scope<'t, 'a>,
 ) -> Result<Operand<'t, 'a>, EvalFault>
@@ -30,33 +31,37 @@ pub(crate) fn worth<'t, 'a>(
         Term::Number(units) => number(*units),
         Term::Text(text) => Ok(Operand::Text(text.as_slice())),
         Term::Source(source) => scope.whole(*source),
-        Term::Group(inside) => worth(inside, scope),
-        Term::List(items) => list(items, scope),
-        Term::Member(of, name) => member(worth(of, scope), name.as_slice()),
-        Term::Index(of, place) => index(worth(of, scope), worth(place, scope)),
-        Term::Has(of, name) => has(worth(of, scope), name.as_slice()),
-        Term::Call(function, argument) => call(*function, worth(argument, scope), scope.alloc()),
-        Term::Method(kind, of, argument) => method(*kind, worth(of, scope), worth(argument, scope)),
-        Term::Unary(sign, operand) => signed(*sign, worth(operand, scope)),
+        Term::Group(inside) => worth(alloc, inside, scope),
+        Term::List(items) => list(alloc, items, scope),
+        Term::Member(of, name) => member(worth(alloc, of, scope), name.as_slice()),
+        Term::Index(of, place) => index(worth(alloc, of, scope), worth(alloc, place, scope)),
+        Term::Has(of, name) => has(worth(alloc, of, scope), name.as_slice()),
+        Term::Call(function, argument) => call(*function, worth(alloc, argument, scope), alloc),
+        Term::Method(kind, of, argument) => method(
+            *kind,
+            worth(alloc, of, scope),
+            worth(alloc, argument, scope),
+        ),
+        Term::Unary(sign, operand) => signed(*sign, worth(alloc, operand, scope)),
         Term::Binary(operator, left, right) => match operator {
-            Operator::Or => match truth(worth(left, scope))? {
+            Operator::Or => match truth(worth(alloc, left, scope))? {
                 Ok(true) => Ok(Operand::Bool(true)),
-                left => join(true, left, truth(worth(right, scope))?),
+                left => join(true, left, truth(worth(alloc, right, scope))?),
             },
-            Operator::And => match truth(worth(left, scope))? {
+            Operator::And => match truth(worth(alloc, left, scope))? {
                 Ok(false) => Ok(Operand::Bool(false)),
-                left => join(false, left, truth(worth(right, scope))?),
+                left => join(false, left, truth(worth(alloc, right, scope))?),
             },
             _ => binary(
                 *operator,
-                worth(left, scope),
-                worth(right, scope),
-                scope.alloc(),
+                worth(alloc, left, scope),
+                worth(alloc, right, scope),
+                alloc,
             ),
         },
-        Term::Choice(test, chosen, other) => match truth(worth(test, scope))? {
-            Ok(true) => worth(chosen, scope),
-            Ok(false) => worth(other, scope),
+        Term::Choice(test, chosen, other) => match truth(worth(alloc, test, scope))? {
+            Ok(true) => worth(alloc, chosen, scope),
+            Ok(false) => worth(alloc, other, scope),
             Err(fault) => Err(fault),
         },
     }
@@ -64,12 +69,16 @@ pub(crate) fn worth<'t, 'a>(
 
 #[tactic(auto, using(crate::proofs::ListLemmas::all_begun, crate::proofs::ListLemmas::item_worth, crate::proofs::ListLemmas::item_fails))]
 #[cycle(worth)]
-fn list<'t, 'a>(items: &'t Vec<Term>, scope: &Scope<'t, 'a>) -> Result<Operand<'t, 'a>, EvalFault>
+fn list<'t, 'a>(
+    alloc: Global,
+    items: &'t Vec<Term>,
+    scope: &Scope<'t, 'a>,
+) -> Result<Operand<'t, 'a>, EvalFault>
     ensures { Gives (then_all (all_worth (trees_of items.now.items) scope.now) (λ ds. Ok (written ds))) result }
 {
-    let mut values = Vec::new(scope.alloc());
+    let mut values = Vec::new(alloc);
     for item in items {
-        values.push(worth(item, scope)?)?;
+        values.push(worth(alloc, item, scope)?)?;
     }
     Ok(Operand::Written(values))
 }
