@@ -25,4 +25,4 @@ steps_of (Memory s) = s
 -- What is recorded goes on being recorded, in order, and more comes behind it. No result changes.
 pub record Grow (old new : RunSteps) : Type 0 where
   pub more : (rest : List StepEntry) × (new.recorded ≡ old.recorded ++ rest)
-  pub stay : (name result : List ℕ) → result_of name old ≡ Some result → result_of name new ≡ Some result
+  pub stay : (name text : List ℕ) → result_of name old ≡ Some text → result_of name new ≡ Some text

@@ -3,6 +3,7 @@ ghost use Rattle.std.specs.Option.{option_map};
 ghost use Rattle.kinds.specs.RunSteps.{no_steps, is_recorded, is_planned, is_pending, is_known, pending_of, result_of, names, most_names, record_step, plan_step, pend_step, keep_step, note_plan, note_pending, adds};
 ghost use Rattle.run_state.specs.Named.{AreApart, has_place};
 ghost use Rattle.run_state.specs.Noted.{Notes, Grow, steps_of};
+ghost use Rattle.run_state.specs.declared.ended.Ended.TheVariants.{Completed, Failed, Cancelled};
 
 use crate::{Ended, Entries};
 use kinds::{Pending, StepEntry, StepHash};
@@ -40,13 +41,13 @@ pub enum Noted {
 
 impl Model for Active {
     ghost use Rattle.kinds.specs.RunSteps.{RunSteps};
-    ghost use Rattle.run_state.specs.Named.{IsNamed};
+    ghost use Rattle.run_state.specs.Named.{IsNamed, steps_from};
 
     ghost Value = { RunSteps };
 
-    ghost view = { λ a. record { recorded = a.recorded; planned = a.planned.keys; pending = a.pending.entries } };
+    ghost view = { λ a. steps_from a.recorded a.planned.keys a.pending.entries };
 
-    ghost invariant = { λ a. IsNamed (record { recorded = a.recorded; planned = a.planned.keys; pending = a.pending.entries }) a.places.entries };
+    ghost invariant = { λ a. IsNamed (steps_from a.recorded a.planned.keys a.pending.entries) a.places.entries };
 }
 
 impl Active {
@@ -184,18 +185,24 @@ impl Active {
     }
 
     /// The run is completed.
-    pub fn finish(self) -> Ended {
-        Ended
+    pub fn finish(self) -> Ended
+        ensures { result ≡ Completed }
+    {
+        Ended::Completed
     }
 
     /// The run has failed.
-    pub fn fail(self) -> Ended {
-        Ended
+    pub fn fail(self) -> Ended
+        ensures { result ≡ Failed }
+    {
+        Ended::Failed
     }
 
     /// The run is cancelled.
-    pub fn cancel(self) -> Ended {
-        Ended
+    pub fn cancel(self) -> Ended
+        ensures { result ≡ Cancelled }
+    {
+        Ended::Cancelled
     }
 
     fn is_known(&self, hash: &StepHash) -> bool

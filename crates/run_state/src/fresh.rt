@@ -1,22 +1,30 @@
 ghost use Rattle.std.specs.Prelude.{◌≡◌};
 ghost use Rattle.kinds.specs.RunSteps.{no_steps};
+ghost use Rattle.run_state.specs.declared.ended.Ended.TheVariants.{Cancelled};
 
-use crate::Active;
+use crate::{Active, Ended};
 use std::alloc::Global;
+use std::marker::Model;
 
-/// A run that hasn't begun: no call of it was made yet, and it has no steps.
+/// A run that hasn't begun: no call of it was made yet. Contracts see that it has no steps.
 #[derive(Drop)]
 pub struct Fresh {
     alloc: Global,
 }
 
-/// A run that is over. It keeps nothing, and nothing can be recorded in it.
-#[derive(Clone, Copy, Debug, PartialEq, Eq)]
-pub struct Ended;
+impl Model for Fresh {
+    ghost use Rattle.kinds.specs.RunSteps.{RunSteps, no_steps};
+
+    ghost Value = { RunSteps };
+
+    ghost view = { λ f. no_steps };
+}
 
 impl Fresh {
     /// Takes no memory.
-    pub fn empty(alloc: Global) -> Self {
+    pub fn empty(alloc: Global) -> Self
+        ensures { result ≡ no_steps }
+    {
         Fresh { alloc }
     }
 
@@ -28,7 +36,9 @@ impl Fresh {
     }
 
     /// The run is cancelled before its first call.
-    pub fn cancel(self) -> Ended {
-        Ended
+    pub fn cancel(self) -> Ended
+        ensures { result ≡ Cancelled }
+    {
+        Ended::Cancelled
     }
 }

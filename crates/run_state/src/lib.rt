@@ -3,12 +3,14 @@
 #![tactic(auto)]
 
 mod active;
+mod ended;
 mod entries;
 mod fresh;
 
 pub use active::{Active, Noted};
+pub use ended::Ended;
 pub use entries::Entries;
-pub use fresh::{Ended, Fresh};
+pub use fresh::Fresh;
 
 #[cfg(test)]
 mod tests;

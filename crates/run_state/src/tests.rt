@@ -1,5 +1,5 @@
 use crate::{Active, Fresh, Noted};
-use kinds::{Pending, StepHash};
+use kinds::{Pending, RunStatus, StepHash};
 use lists::Bytes;
 use std::alloc::Global;
 use std::test::Fail;
@@ -123,6 +123,17 @@ fn a_thousand_names(rt: HostRuntime) -> Result<(), Fail> {
         run = next;
     }
     assert_eq!(rt; run.names(), 1_000);
-    let _ = run.finish();
+    assert_eq!(rt; RunStatus::from(run.finish()), RunStatus::Completed);
+    Ok(())
+}
+
+#[test]
+fn ends_of_a_run(rt: HostRuntime) -> Result<(), Fail> {
+    let run = Fresh::empty(rt.alloc());
+    assert_eq!(rt; RunStatus::from(run.cancel()), RunStatus::Cancelled);
+    let run = Fresh::empty(rt.alloc()).begin();
+    assert_eq!(rt; RunStatus::from(run.cancel()), RunStatus::Cancelled);
+    let run = Fresh::empty(rt.alloc()).begin();
+    assert_eq!(rt; RunStatus::from(run.fail()), RunStatus::Failed);
     Ok(())
 }
