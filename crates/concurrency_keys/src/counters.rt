@@ -1,11 +1,8 @@
-ghost use Rattle.std.specs.Prelude.{◌≡◌, ◌<◌, [], length, OnOk, OnErr, nat_le, cond, Some};
+ghost use Rattle.std.specs.Prelude.{◌≡◌, ◌<◌, [], length, OnOk, OnErr, Some};
 ghost use Rattle.std.specs.List.{list_any};
-ghost use Rattle.kinds.specs.declared.cell.CellLimit.{CellLimit};
-ghost use Rattle.std.specs.BTreeMap.{is_at};
-ghost use Rattle.std.specs.Map.{lookup};
-ghost use Rattle.kinds.specs.Cells.{cell_cmp, has_cell};
-ghost use Rattle.kinds.specs.declared.cell.Cell.{Cell};
-ghost use Rattle.concurrency_keys.specs.Counts.{count_of, IsRaised, IsLowered, IsRaisedAt, IsLoweredAt, IsRaisedAll, IsLoweredAll, IsSame};
+ghost use Rattle.kinds.specs.Cells.{has_cell};
+ghost use Rattle.concurrency_keys.specs.Counts.{count_of, is_full_by, Sets, IsSame};
+ghost use Rattle.concurrency_keys.specs.Counts.{IsRaised, IsLowered, IsRaisedAt, IsLoweredAt, IsRaisedAll, IsLoweredAll};
 
 use kinds::{Cell, CellLimit};
 use lists::Memory;
@@ -53,7 +50,7 @@ impl Counters {
 
     /// Whether as many issues have one of the cells as its limit, or more.
     pub(crate) fn any_full(&self, limits: &[CellLimit]) -> bool
-        ensures { result ≡ list_any (λ (l : CellLimit). nat_le l.limit (count_of l.cell self.now)) limits.now }
+        ensures { result ≡ list_any (is_full_by self.now) limits.now }
     {
         limits.iter().any(|l| self.count(&l.cell) >= l.limit as u64)
     }
@@ -72,7 +69,7 @@ impl Counters {
     // Changes the count of a cell that has one.
     fn set(&mut self, cell: &Cell, count: u64)
         requires { 0 < count_of cell.now self.old }
-        ensures { (q : Cell) → lookup (is_at (cell_cmp q)) self.new ≡ cond (is_at (cell_cmp cell.now) q) (Some count) (lookup (is_at (cell_cmp q)) self.old) }
+        ensures { Sets cell.now (Some count) self.old self.new }
     {
         if let Some(place) = self.counts.get_mut(cell) {
             *place = count;

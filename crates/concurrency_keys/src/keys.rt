@@ -52,7 +52,8 @@ impl ConcurrencyKeys {
     pub fn enter(&mut self, issue: u64, cells: &CellLimits) -> Result<(), Memory>
         requires free { are_free cells.now self.old ≡ true }
         requires fresh { find (has_issue issue) self.old ≡ None }
-        ensures ok { OnOk result (self.new ≡ insert_issue (record { issue = issue; cells = cells.now }) self.old) }
+        ensures ok { OnOk result (self.new
+            ≡ insert_issue (record { issue = issue; cells = cells.now }) self.old) }
         ensures err { OnErr result (self.new ≡ self.old) }
     {
         let entry = IssueEntry {

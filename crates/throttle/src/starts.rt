@@ -144,8 +144,8 @@ impl Starts {
         Ok(())
     }
 
-    /// Drops the entries that tell nothing of starts from a moment on: from their greatest on, a cell lets runs
-    /// start as if it were new.
+    /// Drops the entries that tell nothing of starts from a moment on: from their greatest on, a cell lets
+    /// runs start as if it were new.
     pub fn forget(&mut self, moment: u64)
         ensures { self.new ≡ later_starts moment self.old }
     {
