@@ -36,6 +36,8 @@ pub record AreOpen (ws : List Window) (look : ℕ × List ℕ → Option (ℕ ×
   pub apart : AreApart number_of ws
   pub dated : AllByRecursion IsDated ws
 
-pub record AreHeld (windows : List ((ℕ × ℕ) × Window)) (places : List ((ℕ × List ℕ) × (ℕ × ℕ))) : Type 0 where
+pub record AreHeld
+    (windows : List ((ℕ × ℕ) × Window))
+    (places : List ((ℕ × List ℕ) × (ℕ × ℕ))) : Type 0 where
   pub sorted : IsSorted kind_of number_of windows
   pub open_by : AreOpen (values_of windows) (λ key. lookup (is_at (key_cmp key)) places)

@@ -66,8 +66,10 @@ impl Windows {
         requires room { has_room rule.now (find (is_of version value.now) self.old) ≡ true }
         requires rule { IsRule rule.now }
         requires moment { t ≤ last_moment }
-        ensures answer { IfOk result (λ a. a ≡ answer_to rule.now version value.now event t number self.old) }
-        ensures ok { OnOk result (self.new ≡ after_offer rule.now version value.now event t number self.old) }
+        ensures answer { IfOk result (λ a.
+            a ≡ answer_to rule.now version value.now event t number self.old) }
+        ensures ok { OnOk result
+            (self.new ≡ after_offer rule.now version value.now event t number self.old) }
         ensures err { OnErr result (self.new ≡ self.old) }
     {
         let key = (version, value.clone()?);
