@@ -18,7 +18,7 @@ use Rattle.kinds.specs.declared.cell.CellLimit.{CellLimit}
 use Rattle.kinds.specs.declared.cell.IssueEntry.{IssueEntry}
 use Rattle.lists.proofs.Keyed.{filter_none}
 use Rattle.lists.proofs.Stored.{InsertsByNumber, stored_empty, numbered_put, numbered_left, numbered_found}
-use Rattle.concurrency_keys.specs.Counts.{count_of, held, issue_of, IsSame, IsRaised, IsLowered, IsRaisedAt, IsLoweredAt, IsRaisedAll, IsLoweredAll, IsCounted}
+use Rattle.concurrency_keys.specs.Counts.{count_of, held, issue_of, Sets, NoneIsZero, IsSame, IsRaised, IsLowered, IsRaisedAt, IsLoweredAt, IsRaisedAll, IsLoweredAll, IsCounted}
 
 -- ---- cells
 
@@ -66,6 +66,17 @@ lowered cell w old new less h = record {
       (h q) (λ e. less ∙ ap (λ r. count_of r old - 1) (same_cell cell q e)) (λ e. refl)
       ∙ cond_less (is_cell cell q) (count_of q old);
 }
+
+pub some_more : (n m : ℕ) → n ≡ m + 1 → Some n ≡ Some 0 → ⊥
+some_more n m h e = let zero : n ≡ 0 = cc in omega arith
+
+-- a change of one cell to a count that isn't 0, or to none
+pub none_zero : (key : Cell) (w : Option ℕ) (old new : List (Cell × ℕ)) → (w ≡ Some 0 → ⊥) → Sets key w old new → NoneIsZero old → NoneIsZero new
+none_zero key w old new some sets was q z = by_cell (is_cell key q) (sets q)
+  where
+    by_cell : (b : Bool) → lookup (is_at (cell_cmp q)) new ≡ cond b w (lookup (is_at (cell_cmp q)) old) → ⊥
+    by_cell true e = some (sym e ∙ z)
+    by_cell false e = was q (sym e ∙ z)
 
 -- a checked sum
 pub more_by : (o : Option ℕ) (n m : ℕ) (P : Type 0) → SomeIff o P m → o ≡ Some n → n ≡ m

@@ -1,5 +1,5 @@
 -- Counts of issues by cell, and how they change.
-use Rattle.std.specs.Prelude.{◌≡◌, ◌≤◌, ℕ, ◌+◌, ◌-◌, Bool, cond, List, take, Option, nat_le}
+use Rattle.std.specs.Prelude.{◌≡◌, ◌≤◌, ℕ, ◌+◌, ◌-◌, Bool, cond, List, take, Option, Some, nat_le}
 use Rattle.std.specs.BTreeMap.{is_at}
 use Rattle.std.specs.Map.{lookup, values_of}
 use Rattle.std.specs.Option.{unwrap_or}
@@ -18,10 +18,15 @@ count_of cell counts = unwrap_or (lookup (is_at (cell_cmp cell)) counts) 0
 abbrev pub is_full_by : List (Cell × ℕ) → CellLimit → Bool
 is_full_by counts l = nat_le l.limit (count_of l.cell counts)
 
+-- no cell has the count 0: what no issue has any more is dropped
+abbrev pub NoneIsZero : List (Cell × ℕ) → Type 0
+NoneIsZero counts = (q : Cell) → lookup (is_at (cell_cmp q)) counts ≡ Some 0 → ⊥
+
 -- one cell has this count from now on, where it has any
 abbrev pub Sets : Cell → Option ℕ → List (Cell × ℕ) → List (Cell × ℕ) → Type 0
 Sets cell count old new =
-    (q : Cell) → lookup (is_at (cell_cmp q)) new ≡ cond (is_cell cell q) count (lookup (is_at (cell_cmp q)) old)
+    (q : Cell)
+    → lookup (is_at (cell_cmp q)) new ≡ cond (is_cell cell q) count (lookup (is_at (cell_cmp q)) old)
 
 -- 1 where the list names the cell
 unfoldable pub held : Cell → List CellLimit → ℕ

@@ -19,10 +19,13 @@ pub(crate) struct Counters {
 impl Model for Counters {
     ghost use Rattle.std.specs.Prelude.{List, ℕ};
     ghost use Rattle.kinds.specs.declared.cell.Cell.{Cell};
+    ghost use Rattle.concurrency_keys.specs.Counts.{NoneIsZero};
 
     ghost Value = { List (Cell × ℕ) };
 
     ghost view = { λ c. c.counts.entries };
+
+    ghost invariant = { λ c. NoneIsZero c.counts.entries };
 }
 
 /// Whether the list names the cell.
@@ -68,7 +71,8 @@ impl Counters {
 
     // Changes the count of a cell that has one.
     fn set(&mut self, cell: &Cell, count: u64)
-        requires { 0 < count_of cell.now self.old }
+        requires counted { 0 < count_of cell.now self.old }
+        requires some { 0 < count }
         ensures { Sets cell.now (Some count) self.old self.new }
     {
         if let Some(place) = self.counts.get_mut(cell) {
