@@ -6,3 +6,4 @@ pub mod Held
 pub mod Picked
 pub mod Meets
 pub mod Runs
+pub mod Filled

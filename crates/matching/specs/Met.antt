@@ -17,7 +17,8 @@ met_numbers condition number truth event es = map number (filter (λ e. is_met t
 
 -- the runs of the entries that an event meets, each once, in order
 abbrev pub met_runs : {X : Type 0} → (X → Condition) → (X → ℕ) → Truth → Event → List X → List ℕ
-met_runs condition run truth event es = in_order (map run (filter (λ e. is_met truth event (condition e)) es))
+met_runs condition run truth event es =
+    in_order (map run (filter (λ e. is_met truth event (condition e)) es))
 
 abbrev pub run_if : {X : Type 0} → (X → Bool) → (X → ℕ) → Option X → Option ℕ
 run_if test run None = None
@@ -32,11 +33,13 @@ abbrev pub asks : Event → Condition → Bool
 asks event c = bytes_eq c.name event.name && is_some c.cond
 
 abbrev pub meets_at : {X : Type 0} → (X → Condition) → (X → ℕ) → Truth → Event → List X → ℕ → Bool
-meets_at condition number truth event es n = passes (λ e. is_met truth event (condition e)) (find (has number n) es)
+meets_at condition number truth event es n =
+    passes (λ e. is_met truth event (condition e)) (find (has number n) es)
 
 abbrev pub asks_at : {X : Type 0} → (X → Condition) → (X → ℕ) → Event → List X → ℕ → Bool
 asks_at condition number event es n = passes (λ e. asks event (condition e)) (find (has number n) es)
 
 -- the run of the entry that has a number, where an event meets it
 abbrev pub run_at : {X : Type 0} → (X → Condition) → (X → ℕ) → (X → ℕ) → Truth → Event → List X → ℕ → Option ℕ
-run_at condition run number truth event es n = run_if (λ e. is_met truth event (condition e)) run (find (has number n) es)
+run_at condition run number truth event es n =
+    run_if (λ e. is_met truth event (condition e)) run (find (has number n) es)

@@ -42,7 +42,8 @@ is_near values event p = bytes_eq p.0.name event.name && is_value p.1 (value_for
 -- ---- the order of places
 
 abbrev pub field_cmp : Field → Field → Ordering
-field_cmp a b = ordering_then (slice_cmp nat_cmp a.name b.name) (option_cmp (slice_cmp (slice_cmp nat_cmp)) a.path b.path)
+field_cmp a b =
+    ordering_then (slice_cmp nat_cmp a.name b.name) (option_cmp (slice_cmp (slice_cmp nat_cmp)) a.path b.path)
 
 abbrev pub place_cmp : Field × List ℕ → Field × List ℕ → Ordering
 place_cmp a b = ordering_then (field_cmp a.0 b.0) (slice_cmp nat_cmp a.1 b.1)
@@ -62,8 +63,15 @@ has_number ns n = list_any (is_at (nat_cmp n)) ns
 abbrev pub is_wanted : Values → Event → ℕ → (Field × List ℕ) × ℕ → Bool
 is_wanted values event n q = is_near values event q.0 && n == q.1
 
+-- the same of the places of one field
+abbrev pub is_wanted_of : Field → Values → Event → ℕ → (Field × List ℕ) × ℕ → Bool
+is_wanted_of field values event n q = is_eq (field_cmp field q.0.0) && is_wanted values event n q
+
 -- The field is the least one of the index from a field on, where the names are equal.
 abbrev pub IsNext : Field → List ((Field × List ℕ) × ℕ) → Option Field → Type 0
-IsNext from keys None = AllByRecursion (λ q. bytes_eq q.0.0.name from.name ≡ true → is_lt (field_cmp q.0.0 from) ≡ true) keys
-IsNext from keys (Some f) = (f.name ≡ from.name) × (is_lt (field_cmp f from) ≡ false) × (list_any (λ q. is_eq (field_cmp f q.0.0)) keys ≡ true)
+IsNext from keys None =
+    AllByRecursion (λ q. bytes_eq q.0.0.name from.name ≡ true → is_lt (field_cmp q.0.0 from) ≡ true) keys
+IsNext from keys (Some f) =
+    (f.name ≡ from.name) × (is_lt (field_cmp f from) ≡ false)
+    × (list_any (λ q. is_eq (field_cmp f q.0.0)) keys ≡ true)
     × AllByRecursion (λ q. (is_lt (field_cmp q.0.0 from) ≡ true) ⊎ (is_gt (field_cmp f q.0.0) ≡ false)) keys

@@ -5,7 +5,7 @@ ghost use Rattle.std.specs.Option.{option_copied};
 ghost use Rattle.std.specs.List.Sorted.{IsStrictlySortedBy};
 ghost use Rattle.std.specs.Ordering.{nat_cmp};
 ghost use Rattle.std.specs.List.{filter_map};
-ghost use Rattle.lists.specs.Entries.{has, without, insert_in, in_order};
+ghost use Rattle.lists.specs.Entries.{has, without, insert_by, in_order};
 ghost use Rattle.kinds.specs.Stores.{AreBucketsRight, is_met};
 ghost use Rattle.matching.specs.Places.{place_of};
 ghost use Rattle.matching.specs.Met.{met_numbers, met_runs, run_at, asked_count, meets_at, asks_at, asks};
@@ -39,7 +39,8 @@ impl<E: Conditional> Model for Index<E> {
 
     ghost view = { λ s. s.entries };
 
-    ghost invariant = { λ s. IsListed place_cmp (λ e. place_of (E.condition_of e)) E.number_of s.entries s.places.keys };
+    ghost invariant = { λ s.
+        IsListed place_cmp (λ e. place_of (E.condition_of e)) E.number_of s.entries s.places.keys };
 }
 
 impl<E: Conditional> Index<E> {
@@ -57,7 +58,7 @@ impl<E: Conditional> Index<E> {
     /// Adds an entry whose number is held by none.
     pub fn add(&mut self, entry: E) -> Result<(), Memory>
         requires new { find (has E.number_of (E.number_of entry)) self.old ≡ None }
-        ensures ok { OnOk result (self.new ≡ insert_in E.rank_of E.number_of entry self.old) }
+        ensures ok { OnOk result (self.new ≡ insert_by E.number_of entry self.old) }
         ensures err { OnErr result (self.new ≡ self.old) }
     {
         let number = entry.number();
@@ -113,9 +114,12 @@ impl<E: Conditional> Index<E> {
         matcher: &M,
         steps: &mut Steps<L>,
     ) -> Result<Numbers, Memory>
-        requires right { AreBucketsRight E.condition_of (M.is_true matcher.now) (M.value_of matcher.now) event.now self.now }
-        ensures met { IfOk result (λ ns. ns ≡ met_numbers E.condition_of E.number_of (M.is_true matcher.now) event.now self.now) }
-        ensures asked { steps.new ≤ steps.old + asked_count E.condition_of (M.value_of matcher.now) event.now self.now }
+        requires right { AreBucketsRight E.condition_of (M.is_true matcher.now) (M.value_of matcher.now)
+            event.now self.now }
+        ensures met { IfOk result (λ ns. ns
+            ≡ met_numbers E.condition_of E.number_of (M.is_true matcher.now) event.now self.now) }
+        ensures asked { steps.new ≤ steps.old
+            + asked_count E.condition_of (M.value_of matcher.now) event.now self.now }
     {
         self.entries.order();
         let near = near(self.alloc, &self.places, event, matcher)?;
@@ -130,8 +134,10 @@ impl<E: Conditional> Index<E> {
         matcher: &M,
         steps: &mut Steps<L>,
     ) -> Result<Numbers, Memory>
-        ensures met { IfOk result (λ ns. ns ≡ filter (meets_at E.condition_of E.number_of (M.is_true matcher.now) event.now self.now) near.now.keys) }
-        ensures asked { steps.new ≤ steps.old + length (filter (asks_at E.condition_of E.number_of event.now self.now) near.now.keys) }
+        ensures met { IfOk result (λ ns. ns ≡ filter
+            (meets_at E.condition_of E.number_of (M.is_true matcher.now) event.now self.now) near.now.keys) }
+        ensures asked { steps.new ≤ steps.old
+            + length (filter (asks_at E.condition_of E.number_of event.now self.now) near.now.keys) }
         ensures ordered { IsStrictlySortedBy nat_cmp near.now.keys }
     {
         let mut met = Numbers::new(self.alloc);
@@ -151,8 +157,10 @@ impl<E: Conditional> Index<E> {
         matcher: &M,
         steps: &mut Steps<L>,
     ) -> Result<bool, Memory>
-        ensures met { IfOk result (λ b. b ≡ meets_at E.condition_of E.number_of (M.is_true matcher.now) event.now self.now number) }
-        ensures asked { steps.new ≤ steps.old + (if asks_at E.condition_of E.number_of event.now self.now number then 1 else 0) }
+        ensures met { IfOk result (λ b. b
+            ≡ meets_at E.condition_of E.number_of (M.is_true matcher.now) event.now self.now number) }
+        ensures asked { steps.new ≤ steps.old
+            + (if asks_at E.condition_of E.number_of event.now self.now number then 1 else 0) }
     {
         match self.entries.get(number) {
             Some(entry) => is_entry_met(entry, event, matcher, steps),
@@ -167,9 +175,12 @@ impl<E: Conditional> Index<E> {
         matcher: &M,
         steps: &mut Steps<L>,
     ) -> Result<Numbers, Memory>
-        requires right { AreBucketsRight E.condition_of (M.is_true matcher.now) (M.value_of matcher.now) event.now self.now }
-        ensures met { IfOk result (λ rs. rs ≡ met_runs E.condition_of E.run_of (M.is_true matcher.now) event.now self.now) }
-        ensures asked { steps.new ≤ steps.old + asked_count E.condition_of (M.value_of matcher.now) event.now self.now }
+        requires right { AreBucketsRight E.condition_of (M.is_true matcher.now) (M.value_of matcher.now)
+            event.now self.now }
+        ensures met { IfOk result (λ rs. rs
+            ≡ met_runs E.condition_of E.run_of (M.is_true matcher.now) event.now self.now) }
+        ensures asked { steps.new ≤ steps.old
+            + asked_count E.condition_of (M.value_of matcher.now) event.now self.now }
     {
         self.entries.order();
         let near = near(self.alloc, &self.places, event, matcher)?;
@@ -185,8 +196,11 @@ impl<E: Conditional> Index<E> {
         matcher: &M,
         steps: &mut Steps<L>,
     ) -> Result<BTreeSet<u64>, Memory>
-        ensures met { IfOk result (λ s. s.keys ≡ in_order (filter_map (run_at E.condition_of E.run_of E.number_of (M.is_true matcher.now) event.now self.now) near.now.keys)) }
-        ensures asked { steps.new ≤ steps.old + length (filter (asks_at E.condition_of E.number_of event.now self.now) near.now.keys) }
+        ensures met { IfOk result (λ s. s.keys ≡ in_order (filter_map
+            (run_at E.condition_of E.run_of E.number_of (M.is_true matcher.now) event.now self.now)
+            near.now.keys)) }
+        ensures asked { steps.new ≤ steps.old
+            + length (filter (asks_at E.condition_of E.number_of event.now self.now) near.now.keys) }
         ensures ordered { IsStrictlySortedBy nat_cmp near.now.keys }
     {
         let mut runs = BTreeSet::new(self.alloc);
@@ -206,8 +220,10 @@ impl<E: Conditional> Index<E> {
         matcher: &M,
         steps: &mut Steps<L>,
     ) -> Result<Option<u64>, Memory>
-        ensures met { IfOk result (λ o. o ≡ run_at E.condition_of E.run_of E.number_of (M.is_true matcher.now) event.now self.now number) }
-        ensures asked { steps.new ≤ steps.old + (if asks_at E.condition_of E.number_of event.now self.now number then 1 else 0) }
+        ensures met { IfOk result (λ o. o ≡ run_at E.condition_of E.run_of E.number_of
+            (M.is_true matcher.now) event.now self.now number) }
+        ensures asked { steps.new ≤ steps.old
+            + (if asks_at E.condition_of E.number_of event.now self.now number then 1 else 0) }
     {
         match self.entries.get(number) {
             Some(entry) => {
@@ -257,7 +273,8 @@ fn is_entry_met<E: Conditional, M: Matcher, L: Ledger>(
     matcher: &M,
     steps: &mut Steps<L>,
 ) -> Result<bool, Memory>
-    ensures met { IfOk result (λ b. b ≡ is_met (M.is_true matcher.now) event.now (E.condition_of entry.now)) }
+    ensures met { IfOk result (λ b. b
+        ≡ is_met (M.is_true matcher.now) event.now (E.condition_of entry.now)) }
     ensures asked { steps.new ≤ steps.old + (if asks event.now (E.condition_of entry.now) then 1 else 0) }
 {
     if entry.name() != event.name.as_slice() {

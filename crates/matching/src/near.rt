@@ -1,9 +1,8 @@
 // The numbers whose conditions are looked at for an event.
-ghost use Rattle.std.specs.Prelude.{◌≡◌, ◌||◌, ◌&&◌, ℕ, [], None, OnOk, IfOk};
+ghost use Rattle.std.specs.Prelude.{◌≡◌, ◌||◌, ℕ, [], None, OnOk, IfOk};
 ghost use Rattle.std.specs.List.{list_any};
 ghost use Rattle.std.specs.Option.{option_copied};
-ghost use Rattle.std.specs.Ordering.{is_eq};
-ghost use Rattle.matching.specs.Places.{value_for, field_cmp, field_after, has_number, is_wanted, path_behind, IsNext};
+ghost use Rattle.matching.specs.Places.{value_for, field_after, has_number, is_wanted, is_wanted_of, path_behind, IsNext};
 
 use crate::gather::gather;
 use crate::place::Field;
@@ -95,7 +94,7 @@ fn look<M: PathMatcher>(
 ) -> Result<(), Memory>
     requires named { field.now.name ≡ event.now.name }
     ensures { OnOk result ((n : ℕ) → has_number found.new.keys n ≡ (has_number found.old.keys n
-        || list_any (λ q. is_eq (field_cmp field.now q.0.0) && is_wanted (M.value_of matcher.now) event.now n q) places.now.keys)) }
+        || list_any (is_wanted_of field.now (M.value_of matcher.now) event.now n) places.now.keys)) }
 {
     let copy = copy_field(field)?;
     let Some(value) = value_of(alloc, field, event, matcher)? else {
