@@ -5,3 +5,6 @@
 mod rules;
 
 pub use rules::CancelRules;
+
+#[cfg(test)]
+mod tests;

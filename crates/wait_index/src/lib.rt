@@ -5,3 +5,6 @@
 mod waits;
 
 pub use waits::WaitIndex;
+
+#[cfg(test)]
+mod tests;

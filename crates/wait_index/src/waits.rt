@@ -70,9 +70,11 @@ impl WaitIndex {
         matcher: &M,
         steps: &mut Steps<L>,
     ) -> Result<Numbers, Memory>
-        requires right { AreBucketsRight wait_condition (M.is_true matcher.now) (M.value_of matcher.now) event.now self.now }
+        requires right { AreBucketsRight wait_condition (M.is_true matcher.now) (M.value_of matcher.now)
+            event.now self.now }
         ensures woken { IfOk result (λ ns. ns ≡ woken (M.is_true matcher.now) event.now self.now) }
-        ensures asked { steps.new ≤ steps.old + asked_count wait_condition (M.value_of matcher.now) event.now self.now }
+        ensures asked { steps.new ≤ steps.old
+            + asked_count wait_condition (M.value_of matcher.now) event.now self.now }
     {
         self.waits.matches(event, matcher, steps)
     }
