@@ -47,7 +47,8 @@ impl Model for Active {
 
     ghost view = { λ a. steps_from a.recorded a.planned.keys a.pending.entries };
 
-    ghost invariant = { λ a. IsNamed (steps_from a.recorded a.planned.keys a.pending.entries) a.places.entries };
+    ghost invariant = { λ a.
+        IsNamed (steps_from a.recorded a.planned.keys a.pending.entries) a.places.entries };
 }
 
 impl Active {
