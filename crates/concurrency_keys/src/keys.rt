@@ -1,9 +1,9 @@
 ghost use Rattle.std.specs.Prelude.{◌≡◌, [], true, find, None, OnOk, OnErr};
-ghost use Rattle.kinds.specs.Cells.{are_free, has_issue, without_issue, insert_issue};
+ghost use Rattle.kinds.specs.Cells.{are_free, is_full, has_issue, without_issue, insert_issue};
 
 use crate::Entries;
 use crate::counters::Counters;
-use kinds::{CellLimits, IssueEntry};
+use kinds::{CellLimit, CellLimits, IssueEntry};
 use lists::Memory;
 use std::alloc::Global;
 use std::collections::BTreeMap;
@@ -46,6 +46,13 @@ impl ConcurrencyKeys {
         ensures { result ≡ are_free cells.now self.now }
     {
         !self.counters.any_full(cells.as_slice())
+    }
+
+    /// Whether as many issues are open in the cell as its limit, or more.
+    pub fn full(&self, limit: &CellLimit) -> bool
+        ensures { result ≡ is_full self.now limit.now }
+    {
+        self.counters.count(&limit.cell) >= limit.limit as u64
     }
 
     /// An issue is open, and counts once in each of the cells. A count of 2^64 counts as want of memory.

@@ -5,7 +5,7 @@ use Rattle.std.specs.BTreeMap.{is_at}
 use Rattle.std.proofs.lemmas.Bool.Decides.{nat_tests}
 use Rattle.ready_queue.specs.declared.fronts.Place.{Place}
 use Rattle.ready_queue.specs.Keys.{key_cmp, has, at_most, IsHeadAt, Lead, IsLed, Changes}
-use Rattle.ready_queue.specs.Places.{place_at, is_front, IsFronts, Puts, IsLedBy, IsIndexed, lowered, IsRaised, IsRestored}
+use Rattle.ready_queue.specs.Places.{place_at, is_front, IsFronts, Puts, Indexed, IsLedBy, IsIndexed, lowered, IsRaised, IsRestored, IsParkedAt, ParksNone, ParksOne, AreShut}
 use Rattle.ready_queue.proofs.WalkLemmas.{at_most_trans, at_most_self, at_most_other}
 use Rattle.ready_queue.proofs.FrontLemmas.{key_at, puts_at}
 
@@ -80,9 +80,9 @@ lowered_new (Some place) s n = by_test (at_most (place.score, place.number) (s, 
     by_test true e = e
     by_test false e = at_most_self (s, n)
 
-pub lowered_kept : (o : Option Place) (s n : ℕ) (x : ℕ × ℕ) → IsLedBy o x → at_most ((lowered o s n).score, (lowered o s n).number) x ≡ true
-lowered_kept None s n x h = absurd h
-lowered_kept (Some place) s n x h = by_test (at_most (place.score, place.number) (s, n)) refl
+pub lowered_kept : (o : Option Place) (s n : ℕ) (x : ℕ × ℕ) → (o ≡ None → ⊥) → IsLedBy o x → at_most ((lowered o s n).score, (lowered o s n).number) x ≡ true
+lowered_kept None s n x some h = absurd (some refl)
+lowered_kept (Some place) s n x some h = by_test (at_most (place.score, place.number) (s, n)) refl
   where
     by_test : (b : Bool) → at_most (place.score, place.number) (s, n) ≡ b → at_most ((cond b place (record { score = s; number = n })).score, (cond b place (record { score = s; number = n })).number) x ≡ true
     by_test true e = h
@@ -112,8 +112,8 @@ apart_from : (g a : ℕ) → (g == a) ≡ false → g ≡ a → ⊥
 apart_from g a t e = grind (arith, nat_tests)
 
 -- a key came, and its group's place isn't after it
-pub indexed_added : (a b c : ℕ) (keys more : List (ℕ × ℕ × ℕ)) (old new : List (ℕ × Place)) → IsIndexed keys old → Changes a b c true keys more → Puts a (Some (lowered (place_at a old) b c)) old new → IsIndexed more new
-indexed_added a b c keys more old new x u p = record {
+pub indexed_added : (a b c : ℕ) (keys more : List (ℕ × ℕ × ℕ)) (old new : List (ℕ × Place)) → IsIndexed keys old → (IsParkedAt a (record { keys = keys; places = old }) → ⊥) → Changes a b c true keys more → Puts a (Some (lowered (place_at a old) b c)) old new → IsIndexed more new
+indexed_added a b c keys more old new x free u p = record {
   led = λ g s n h. subst (λ o. IsLedBy o (s, n)) (sym (puts_at a (Some place) old new p g)) (led_by g s n (g == a) refl h (has_added a b c g s n keys more u h));
   used = λ g q h. used_by g q (g == a) refl (sym (puts_at a (Some place) old new p g) ∙ h);
 }
@@ -123,7 +123,8 @@ indexed_added a b c keys more old new x u p = record {
 
     led_by : (g s n : ℕ) (t : Bool) → (g == a) ≡ t → has more g s n ≡ true → ((g ≡ a) × (s ≡ b) × (n ≡ c)) ⊎ (has keys g s n ≡ true) → IsLedBy (cond t (Some place) (place_at g old)) (s, n)
     led_by g s n true e h (inl q) = subst (λ y. at_most (place.score, place.number) y ≡ true) (sym (ap₂ (λ y z. (y, z)) q.1 q.2)) (lowered_new (place_at a old) b c)
-    led_by g s n true e h (inr k) = lowered_kept (place_at a old) b c (s, n) (subst (λ q. IsLedBy (place_at q old) (s, n)) (eqb-true g a e) (x.led g s n k))
+    led_by g s n true e h (inr k) =
+        lowered_kept (place_at a old) b c (s, n) (λ none. free (record { none = none; score = s; number = n; key = subst (λ q. has keys q s n ≡ true) (eqb-true g a e) k })) (subst (λ q. IsLedBy (place_at q old) (s, n)) (eqb-true g a e) (x.led g s n k))
     led_by g s n false e h (inl q) = absurd (apart_from g a e q.0)
     led_by g s n false e h (inr k) = x.led g s n k
 
@@ -142,7 +143,7 @@ indexed_lowered a b c was keys old new x some p = record {
     place = lowered (place_at a old) b c
 
     led_by : (g s n : ℕ) (t : Bool) → (g == a) ≡ t → IsLedBy (place_at g old) (s, n) → IsLedBy (cond t (Some place) (place_at g old)) (s, n)
-    led_by g s n true e k = lowered_kept (place_at a old) b c (s, n) (subst (λ q. IsLedBy (place_at q old) (s, n)) (eqb-true g a e) k)
+    led_by g s n true e k = lowered_kept (place_at a old) b c (s, n) (λ none. let no : None ≡ Some was = sym none ∙ some in cc) (subst (λ q. IsLedBy (place_at q old) (s, n)) (eqb-true g a e) k)
     led_by g s n false e k = k
 
     used_by : (g : ℕ) (q : Place) (t : Bool) → (g == a) ≡ t → cond t (Some place) (place_at g old) ≡ Some q → (s : ℕ) × (n : ℕ) × (has keys g s n ≡ true)
@@ -205,16 +206,126 @@ indexed_removed a b c least keys fewer old new x u head (inr r) = record {
     used_by g q true e h = (least.0, least.1, subst (λ y. has fewer y least.0 least.1 ≡ true) (sym (eqb-true g a e)) head.0)
     used_by g q false e h = let k = x.used g q h in (k.0, k.1, has_other a b c g k.0 k.1 keys fewer u e k.2)
 
+-- a key came of a group that is parked
+pub indexed_kept : (a b c : ℕ) (keys more : List (ℕ × ℕ × ℕ)) (places : List (ℕ × Place)) → IsIndexed keys places → place_at a places ≡ None → Changes a b c true keys more → IsIndexed more places
+indexed_kept a b c keys more places x none u = record {
+  led = λ g s n h. led_by g s n (has_added a b c g s n keys more u h);
+  used = λ g q h. let k = x.used g q h in (k.0, k.1, has_kept a b c g k.0 k.1 keys more u k.2);
+}
+  where
+    led_by : (g s n : ℕ) → ((g ≡ a) × (s ≡ b) × (n ≡ c)) ⊎ (has keys g s n ≡ true) → IsLedBy (place_at g places) (s, n)
+    led_by g s n (inl q) = subst (λ o. IsLedBy o (s, n)) (sym (ap (λ y. place_at y places) q.0 ∙ none)) tt
+    led_by g s n (inr k) = x.led g s n k
+
+-- a group lost its place
+pub indexed_parked : (a : ℕ) (keys : List (ℕ × ℕ × ℕ)) (old new : List (ℕ × Place)) → IsIndexed keys old → Puts a None old new → IsIndexed keys new
+indexed_parked a keys old new x p = record {
+  led = λ g s n h. subst (λ o. IsLedBy o (s, n)) (sym (puts_at a None old new p g)) (led_by g s n (g == a) (x.led g s n h));
+  used = λ g q h. used_by g q (g == a) (sym (puts_at a None old new p g) ∙ h);
+}
+  where
+    led_by : (g s n : ℕ) (t : Bool) → IsLedBy (place_at g old) (s, n) → IsLedBy (cond t None (place_at g old)) (s, n)
+    led_by g s n true k = tt
+    led_by g s n false k = k
+
+    used_by : (g : ℕ) (q : Place) (t : Bool) → cond t None (place_at g old) ≡ Some q → (s : ℕ) × (n : ℕ) × (has keys g s n ≡ true)
+    used_by g q true h = absurd (cc)
+    used_by g q false h = x.used g q h
+
+-- a group got its least key as its place
+pub indexed_placed : (a : ℕ) (least : ℕ × ℕ) (keys : List (ℕ × ℕ × ℕ)) (old new : List (ℕ × Place)) → IsIndexed keys old → IsHeadAt keys a least → Puts a (Some (record { score = least.0; number = least.1 })) old new → IsIndexed keys new
+indexed_placed a least keys old new x head p = record {
+  led = λ g s n h. subst (λ o. IsLedBy o (s, n)) (sym (puts_at a _ old new p g)) (led_by g s n (g == a) refl h);
+  used = λ g q h. used_by g q (g == a) refl (sym (puts_at a _ old new p g) ∙ h);
+}
+  where
+    next : Place
+    next = record { score = least.0; number = least.1 }
+
+    led_by : (g s n : ℕ) (t : Bool) → (g == a) ≡ t → has keys g s n ≡ true → IsLedBy (cond t (Some next) (place_at g old)) (s, n)
+    led_by g s n true e h = head.1 s n (subst (λ y. has keys y s n ≡ true) (eqb-true g a e) h)
+    led_by g s n false e h = x.led g s n h
+
+    used_by : (g : ℕ) (q : Place) (t : Bool) → (g == a) ≡ t → cond t (Some next) (place_at g old) ≡ Some q → (s : ℕ) × (n : ℕ) × (has keys g s n ≡ true)
+    used_by g q true e h = (least.0, least.1, subst (λ y. has keys y least.0 least.1 ≡ true) (sym (eqb-true g a e)) head.0)
+    used_by g q false e h = x.used g q h
+
+-- ---- groups that are parked
+
+at_same : (a g : ℕ) (keys : List (ℕ × ℕ × ℕ)) (s n : ℕ) → (g == a) ≡ true → has keys g s n ≡ true → has keys a s n ≡ true
+at_same a g keys s n e h = subst (λ y. has keys y s n ≡ true) (eqb-true g a e) h
+
+-- one group's place came or went, and other groups got no key
+pub parks_put : (a : ℕ) (o : Option Place) (keys now : List (ℕ × ℕ × ℕ)) (old new : List (ℕ × Place)) → Puts a o old new → ((g s n : ℕ) → (g == a) ≡ false → has now g s n ≡ true → has keys g s n ≡ true)
+    → (o ≡ None → (s n : ℕ) → has now a s n ≡ false) → ParksNone (record { keys = keys; places = old }) (record { keys = now; places = new })
+parks_put a o keys now old new p others gone g k = by_test (g == a) refl (sym (puts_at a o old new p g) ∙ k.none)
+  where
+    by_test : (t : Bool) → (g == a) ≡ t → cond t o (place_at g old) ≡ None → IsParkedAt g (record { keys = keys; places = old })
+    by_test true e h = absurd (let no : true ≡ false = sym (at_same a g now k.score k.number e k.key) ∙ gone h k.score k.number in cc)
+    by_test false e h = record { none = h; score = k.score; number = k.number; key = others g k.score k.number e k.key }
+
+-- each place is as before
+pub parks_like : (keys now : List (ℕ × ℕ × ℕ)) (old new : List (ℕ × Place)) → ((q : ℕ) → place_at q new ≡ place_at q old) → ((g s n : ℕ) → has now g s n ≡ true → has keys g s n ≡ true)
+    → ParksNone (record { keys = keys; places = old }) (record { keys = now; places = new })
+parks_like keys now old new like before g k = record { none = sym (like g) ∙ k.none; score = k.score; number = k.number; key = before g k.score k.number k.key }
+
+pub added_else : (a b c : ℕ) (keys more : List (ℕ × ℕ × ℕ)) → Changes a b c true keys more → (g s n : ℕ) → (g == a) ≡ false → has more g s n ≡ true → has keys g s n ≡ true
+added_else a b c keys more u g s n e h = elim (has_added a b c g s n keys more u h) [ inl q ↦ absurd (apart_from g a e q.0) | inr k ↦ k ]
+
+pub parks_placed : (a b c : ℕ) (place : Place) (keys more : List (ℕ × ℕ × ℕ)) (old new : List (ℕ × Place)) → Changes a b c true keys more → Puts a (Some place) old new → ParksNone (record { keys = keys; places = old }) (record { keys = more; places = new })
+parks_placed a b c place keys more old new u p = parks_put a (Some place) keys more old new p (added_else a b c keys more u) (λ e. absurd (let no : Some place ≡ None = e in cc))
+
+pub parks_kept : (a b c : ℕ) (keys more : List (ℕ × ℕ × ℕ)) (places : List (ℕ × Place)) → IsParkedAt a (record { keys = keys; places = places }) → Changes a b c true keys more → ParksNone (record { keys = keys; places = places }) (record { keys = more; places = places })
+parks_kept a b c keys more places is u g k = by_key (has_added a b c g k.score k.number keys more u k.key)
+  where
+    by_key : ((g ≡ a) × (k.score ≡ b) × (k.number ≡ c)) ⊎ (has keys g k.score k.number ≡ true) → IsParkedAt g (record { keys = keys; places = places })
+    by_key (inl q) = subst (λ y. IsParkedAt y (record { keys = keys; places = places })) (sym q.0) is
+    by_key (inr h) = record { none = k.none; score = k.score; number = k.number; key = h }
+
+pub parks_undone : (a b c : ℕ) (o : Option Place) (keys same : List (ℕ × ℕ × ℕ)) (old mid new : List (ℕ × Place)) → same ≡ keys → o ≡ place_at a old → Puts a (Some (lowered o b c)) old mid → IsRestored a o mid new
+    → ParksNone (record { keys = keys; places = old }) (record { keys = same; places = new })
+parks_undone a b c None keys same old mid new e is p r =
+    parks_like keys same old new (put_and_gone a (Some (lowered None b c)) old mid new (sym is) p r) (λ g s n h. subst (λ l. has l g s n ≡ true) e h)
+parks_undone a b c (Some was) keys same old mid new e is p r =
+    parks_put a (Some (lowered (Some was) b c)) keys same old new (subst (Puts a (Some (lowered (Some was) b c)) old) (sym r) p) (λ g s n f h. subst (λ l. has l g s n ≡ true) e h)
+    (λ none. absurd (let no : Some (lowered (Some was) b c) ≡ None = none in cc))
+
+pub parks_last : (a b c : ℕ) (keys fewer : List (ℕ × ℕ × ℕ)) (old new : List (ℕ × Place)) → Changes a b c false keys fewer → ((s n : ℕ) → has fewer a s n ≡ false) → Puts a None old new → ParksNone (record { keys = keys; places = old }) (record { keys = fewer; places = new })
+parks_last a b c keys fewer old new u none p = parks_put a None keys fewer old new p (λ g s n e h. had a b c g s n keys fewer u h) (λ e. none)
+
+pub parks_raised : (a b c : ℕ) (least : ℕ × ℕ) (keys fewer : List (ℕ × ℕ × ℕ)) (old new : List (ℕ × Place)) → Changes a b c false keys fewer → IsRaised a least old new → ParksNone (record { keys = keys; places = old }) (record { keys = fewer; places = new })
+parks_raised a b c least keys fewer old new u (inl same) = parks_like keys fewer old new (λ q. ap (place_at q) same) (λ g s n h. had a b c g s n keys fewer u h)
+parks_raised a b c least keys fewer old new u (inr r) =
+    parks_put a (Some (record { score = least.0; number = least.1 })) keys fewer old new r.2 (λ g s n e h. had a b c g s n keys fewer u h)
+    (λ e. absurd (let no : Some (record { score = least.0; number = least.1 }) ≡ None = e in cc))
+
+pub parks_again : (a : ℕ) (place : Place) (keys : List (ℕ × ℕ × ℕ)) (old new : List (ℕ × Place)) → Puts a (Some place) old new → ParksNone (record { keys = keys; places = old }) (record { keys = keys; places = new })
+parks_again a place keys old new p = parks_put a (Some place) keys keys old new p (λ g s n e h. h) (λ e. absurd (let no : Some place ≡ None = e in cc))
+
+pub parks_one : (a : ℕ) (keys : List (ℕ × ℕ × ℕ)) (old new : List (ℕ × Place)) → Puts a None old new → ParksOne a (record { keys = keys; places = old }) (record { keys = keys; places = new })
+parks_one a keys old new p g k = by_test (g == a) refl (sym (puts_at a None old new p g) ∙ k.none)
+  where
+    by_test : (t : Bool) → (g == a) ≡ t → cond t None (place_at g old) ≡ None → (g ≡ a) ⊎ IsParkedAt g (record { keys = keys; places = old })
+    by_test true e h = inl (eqb-true g a e)
+    by_test false e h = inr (record { none = h; score = k.score; number = k.number; key = k.key })
+
+pub placed_again : (a : ℕ) (place : Place) (keys : List (ℕ × ℕ × ℕ)) (old new : List (ℕ × Place)) → Puts a (Some place) old new → IsParkedAt a (record { keys = keys; places = new }) → ⊥
+placed_again a place keys old new p k =
+    let no : Some place ≡ None = sym (ap (λ t. cond t (Some place) (place_at a old)) (itself a)) ∙ sym (puts_at a (Some place) old new p a) ∙ k.none in cc
+  where
+    itself : (n : ℕ) → (n == n) ≡ true
+    itself n = grind (arith, nat_tests)
+
 -- ---- the order
 
--- each key has an entry in the order
-pub lead : (keys order : List (ℕ × ℕ × ℕ)) (places : List (ℕ × Place)) → IsIndexed keys places → IsFronts order places → Lead order keys
+-- each open key has an entry in the order, where the keys of parked groups are closed
+pub lead : (open_at : ℕ → Bool) (keys order : List (ℕ × ℕ × ℕ)) (places : List (ℕ × Place)) → IsIndexed keys places → IsFronts order places → AreShut open_at (record { keys = keys; places = places }) → Lead open_at order keys
 unfolding IsFronts is_front
-lead keys order places x f g s n h = by_place (place_at g places) refl (x.led g s n h)
+lead open_at keys order places x f shut g s n h o = by_place (place_at g places) refl (x.led g s n h)
   where
     itself : (a b : ℕ) → (a == a && b == b) ≡ true
     itself a b = grind (arith, nat_tests)
 
     by_place : (w : Option Place) → place_at g places ≡ w → IsLedBy w (s, n) → IsLed order g s n
-    by_place None e k = absurd k
+    by_place None e k = absurd (let no : true ≡ false = sym o ∙ shut g s n h e in cc)
     by_place (Some place) e k = (place.score, place.number, f place.score place.number g ∙ ap (is_front place.score place.number) e ∙ itself place.score place.number, k)

@@ -2,6 +2,7 @@ pub mod FrontLemmas
 pub mod HeadLemmas
 pub mod IndexLemmas
 pub mod LeastLemmas
+pub mod ParkLemmas
 pub mod Pigeons
 pub mod PoolLemmas
 pub mod RankLemmas

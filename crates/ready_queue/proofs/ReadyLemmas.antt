@@ -15,9 +15,11 @@ use Rattle.kinds.specs.contracts.cell.CellLimitOrd.TheImpl.Laws as limit_laws
 use Rattle.kinds.specs.Queue.{limit_cmp, group_cmp, group_of}
 use Rattle.kinds.specs.declared.store.Item.{Item}
 use Rattle.ready_queue.specs.Different.{has_group, different, HasGroups}
-use Rattle.ready_queue.specs.Held.{Group, Held, Ready, name_at, has_at, holds, IsNamed, AreSame, Comes, Goes, IsSoundHeld, IsLeastHeld, IsOf, AreOf, is_of, HasEach}
+use Rattle.ready_queue.specs.Held.{Group, Held, Ready, name_at, has_at, holds, IsNamed, AreSame, Comes, Goes, Groups, IsParked, AreFewer, AreOneMore, AreClosed, IsSoundHeld, IsLeastHeld, IsOf, AreOf, is_of, HasEach}
 use Rattle.ready_queue.specs.Keys.{key_cmp, has, Changes, AreAlike, IsUpTo, IsLeastOpen, IsSound}
 use Rattle.ready_queue.specs.Opens.{Gates, opens, opens_for}
+use Rattle.ready_queue.specs.declared.fronts.Place.{Place}
+use Rattle.ready_queue.specs.Places.{Indexed, IsParkedAt, ParksNone, ParksOne, AreShut}
 use Rattle.ready_queue.proofs.IndexLemmas.{has_added, has_new, has_kept, had, has_split, has_gone}
 
 apart : true ≡ false → ⊥
@@ -99,8 +101,38 @@ module _ (k : Group) (names new : List (Group × ℕ)) (keys : List (ℕ × ℕ 
       (λ t. ap (λ o. has_at keys o s n) (named_there k l (Some next) names new u t) ∙ no_key s n ∙ sym (ap (λ o. has_at keys o s n) (ap (λ q. name_at q names) (sym (tied k l t)) ∙ none)))
       (λ t. ap (λ o. has_at keys o s n) (named_else k l (Some next) names new u t))
 
+  pub fewer_given : (places : List (ℕ × Place)) → AreFewer (record { held = record { names = names; keys = keys }; places = places }) (record { held = record { names = new; keys = keys }; places = places })
+  fewer_given places l p = by_side (is_at (group_cmp k) l)
+      (λ t. absurd (apart (sym (subst (λ g. has keys g p.parked.score p.parked.number ≡ true) (sym (some_same next p.name (sym (named_there k l (Some next) names new u t) ∙ p.named))) p.parked.key) ∙ no_key p.parked.score p.parked.number)))
+      (λ t. record { name = p.name; named = sym (named_else k l (Some next) names new u t) ∙ p.named; parked = p.parked })
+
   pub name_given : name_at k new ≡ Some next
   name_given = named_there k k (Some next) names new u (at_itself k)
+
+-- ---- groups that are parked
+
+pub none_parked : (names : List (Group × ℕ)) (keys : List (ℕ × ℕ × ℕ)) (places : List (ℕ × Place)) → names ≡ [] → (k : Group) → IsParked (record { held = record { names = names; keys = keys }; places = places }) k → ⊥
+none_parked names keys places e k p = none_some p.name (sym (ap (name_at k) e) ∙ p.named)
+
+-- the numbers of groups are as before
+pub fewer_named : (names : List (Group × ℕ)) (keys now : List (ℕ × ℕ × ℕ)) (old new : List (ℕ × Place)) → ParksNone (record { keys = keys; places = old }) (record { keys = now; places = new })
+    → AreFewer (record { held = record { names = names; keys = keys }; places = old }) (record { held = record { names = names; keys = now }; places = new })
+fewer_named names keys now old new none k p = record { name = p.name; named = p.named; parked = none p.name p.parked }
+
+pub one_named : (k : Group) (g next : ℕ) (names : List (Group × ℕ)) (keys now : List (ℕ × ℕ × ℕ)) (old new : List (ℕ × Place)) → IsNamed names keys next → name_at k names ≡ Some g → now ≡ keys → ParksOne g (record { keys = keys; places = old }) (record { keys = now; places = new })
+    → AreOneMore k (record { held = record { names = names; keys = keys }; places = old }) (record { held = record { names = names; keys = now }; places = new })
+one_named k g next names keys now old new i is same one l p = by_group (one p.name p.parked)
+  where
+    by_group : (p.name ≡ g) ⊎ IsParkedAt p.name (record { keys = keys; places = old }) → (l ≡ k) ⊎ IsParked (record { held = record { names = names; keys = keys }; places = old }) l
+    by_group (inl e) = inl (i.single l k g (p.named ∙ ap Some e) is)
+    by_group (inr h) = inr (record { name = p.name; named = p.named; parked = h })
+
+pub not_named : (k : Group) (gs : Groups) → name_at k gs.held.names ≡ None → IsParked gs k → ⊥
+not_named k gs none p = none_some p.name (sym none ∙ p.named)
+
+pub named_placed : (k : Group) (g : ℕ) (names : List (Group × ℕ)) (keys : List (ℕ × ℕ × ℕ)) (places : List (ℕ × Place)) → name_at k names ≡ Some g → (IsParkedAt g (record { keys = keys; places = places }) → ⊥)
+    → IsParked (record { held = record { names = names; keys = keys }; places = places }) k → ⊥
+named_placed k g names keys places is free p = free (subst (λ x. IsParkedAt x (record { keys = keys; places = places })) (some_same p.name g (sym p.named ∙ is)) p.parked)
 
 -- ---- keys by their groups
 
@@ -198,6 +230,10 @@ module _ (k : Group) (g s n : ℕ) (names : List (Group × ℕ)) (keys fewer : L
       named = λ f u m h. let old = i.named f u m (had g s n f u m keys fewer c h) in (old.0, still old.0 f u m old.1 h);
     }
 
+    pub fewer_last : (old after : List (ℕ × Place)) → ParksNone (record { keys = keys; places = old }) (record { keys = fewer; places = after })
+        → AreFewer (record { held = record { names = names; keys = keys }; places = old }) (record { held = record { names = new; keys = fewer }; places = after })
+    fewer_last old after parks l p = record { name = p.name; named = was l p.name p.named; parked = parks p.name p.parked }
+
     pub goes_last : Goes k s n (holds (record { names = names; keys = keys })) (holds (record { names = new; keys = fewer }))
     unfolding holds
     goes_last = record {
@@ -225,6 +261,11 @@ module _ (gate : Gates) (pairs : List (ℕ × Item)) (names : List (Group × ℕ
   are_alike g s n r m h j =
       let k = i.named g s n h in
       opens_of gate pairs k.0 n (key_of k.0 g s n k.1 h) ∙ sym (opens_of gate pairs k.0 m (key_of k.0 g r m k.1 j))
+
+  pub are_shut : (places : List (ℕ × Place)) → AreClosed gate (record { held = record { names = names; keys = keys }; places = places }) → AreShut (opens gate pairs) (record { keys = keys; places = places })
+  are_shut places closed g s n h none =
+      let k = i.named g s n h in
+      opens_of gate pairs k.0 n (key_of k.0 g s n k.1 h) ∙ closed k.0 (record { name = g; named = k.1; parked = record { none = none; score = s; number = n; key = h } })
 
   pub least_held : (r : Option (ℕ × ℕ)) → IsLeastOpen (opens gate pairs) keys r → IsLeastHeld gate (holds (record { names = names; keys = keys })) r
   unfolding holds

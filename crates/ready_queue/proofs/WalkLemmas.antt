@@ -105,8 +105,8 @@ pub record IsWalking (open_at : ℕ → Bool) (keys : List (ℕ × ℕ × ℕ)) 
   pub sorted : IsStrictlySortedBy key_cmp left
   pub covers : (g s n : ℕ) → has keys g s n ≡ true → open_at n ≡ true → IsUpTo best (s, n) ⊎ IsLed left g s n
 
-pub walking_start : (open_at : ℕ → Bool) (keys entries : List (ℕ × ℕ × ℕ)) → IsStrictlySortedBy key_cmp entries → Lead entries keys → IsWalking open_at keys None entries
-walking_start open_at keys entries s l = record { sound = tt; sorted = s; covers = λ g u m h o. inr (l g u m h) }
+pub walking_start : (open_at : ℕ → Bool) (keys entries : List (ℕ × ℕ × ℕ)) → IsStrictlySortedBy key_cmp entries → Lead open_at entries keys → IsWalking open_at keys None entries
+walking_start open_at keys entries s l = record { sound = tt; sorted = s; covers = λ g u m h o. inr (l g u m h o) }
 
 pub walking_end : (open_at : ℕ → Bool) (keys : List (ℕ × ℕ × ℕ)) (best : Option (ℕ × ℕ)) → IsWalking open_at keys best [] → IsLeastOpen open_at keys best
 unfolding has

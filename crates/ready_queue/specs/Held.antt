@@ -8,7 +8,9 @@ use Rattle.kinds.specs.Queue.{group_cmp, group_of}
 use Rattle.kinds.specs.declared.cell.Cell.{Cell}
 use Rattle.kinds.specs.declared.cell.CellLimit.{CellLimit}
 use Rattle.kinds.specs.declared.store.Item.{Item}
+use Rattle.ready_queue.specs.declared.fronts.Place.{Place}
 use Rattle.ready_queue.specs.Keys.{has, IsUpTo}
+use Rattle.ready_queue.specs.Places.{IsParkedAt}
 use Rattle.ready_queue.specs.Opens.{Gates}
 
 abbrev pub Group : Type 0
@@ -21,6 +23,11 @@ Held = Group → ℕ → ℕ → Bool
 pub record Ready : Type 0 where
   pub names : List (Group × ℕ)
   pub keys : List (ℕ × ℕ × ℕ)
+
+-- these, and the places of the groups that aren't parked
+pub record Groups : Type 0 where
+  pub held : Ready
+  pub places : List (ℕ × Place)
 
 abbrev pub name_at : Group → List (Group × ℕ) → Option ℕ
 name_at group names = lookup (is_at (group_cmp group)) names
@@ -52,6 +59,32 @@ pub record Goes (k : Group) (s n : ℕ) (old new : Held) : Type 0 where
   pub had : (l : Group) (u m : ℕ) → new l u m ≡ true → old l u m ≡ true
   pub split : (l : Group) (u m : ℕ) → old l u m ≡ true → ((l ≡ k) × (u ≡ s) × (m ≡ n)) ⊎ (new l u m ≡ true)
   pub gone : new k s n ≡ true → ⊥
+
+-- a key came of the group that has this number
+abbrev pub ComesNamed : ℕ → ℕ → ℕ → Ready → Ready → Type 0
+ComesNamed g s n old new = (k : Group) → name_at k old.names ≡ Some g → Comes k s n (holds old) (holds new)
+
+-- ---- groups that are parked: they have keys, and no place
+
+pub record IsParked (gs : Groups) (k : Group) : Type 0 where
+  pub name : ℕ
+  pub named : name_at k gs.held.names ≡ Some name
+  pub parked : IsParkedAt name (record { keys = gs.held.keys; places = gs.places })
+
+-- no group is parked that wasn't
+abbrev pub AreFewer : Groups → Groups → Type 0
+AreFewer old new = (k : Group) → IsParked new k → IsParked old k
+
+-- no group is parked that wasn't, but this one
+abbrev pub AreOneMore : Group → Groups → Groups → Type 0
+AreOneMore group old new = (k : Group) → IsParked new k → (k ≡ group) ⊎ IsParked old k
+
+abbrev pub ParksNothing : Groups → Type 0
+ParksNothing gs = (k : Group) → IsParked gs k → ⊥
+
+-- the gate is closed for parked groups
+abbrev pub AreClosed : Gates → Groups → Type 0
+AreClosed gate gs = (k : Group) → IsParked gs k → gate k.0 k.1 ≡ false
 
 -- ---- the least of those for whose group the gate is open
 

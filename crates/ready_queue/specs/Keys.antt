@@ -63,9 +63,9 @@ pub record IsLeastOpen (open_at : ℕ → Bool) (keys : List (ℕ × ℕ × ℕ)
 abbrev pub IsLed : List (ℕ × ℕ × ℕ) → ℕ → ℕ → ℕ → Type 0
 IsLed entries g s n = (p : ℕ) × (m : ℕ) × (has entries p m g ≡ true) × (at_most (p, m) (s, n) ≡ true)
 
--- each key has an entry that isn't after it
-abbrev pub Lead : List (ℕ × ℕ × ℕ) → List (ℕ × ℕ × ℕ) → Type 0
-Lead entries keys = (g s n : ℕ) → has keys g s n ≡ true → IsLed entries g s n
+-- each open key has an entry that isn't after it
+abbrev pub Lead : (ℕ → Bool) → List (ℕ × ℕ × ℕ) → List (ℕ × ℕ × ℕ) → Type 0
+Lead open_at entries keys = (g s n : ℕ) → has keys g s n ≡ true → open_at n ≡ true → IsLed entries g s n
 
 -- one key came or went
 unfoldable pub Changes : ℕ → ℕ → ℕ → Bool → List (ℕ × ℕ × ℕ) → List (ℕ × ℕ × ℕ) → Type 0

@@ -3,6 +3,7 @@ pub mod Heads
 pub mod Held
 pub mod Keys
 pub mod Opens
+pub mod Parking
 pub mod Places
 pub mod Pool
 pub mod Runs

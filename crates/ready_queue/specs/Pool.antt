@@ -5,7 +5,7 @@ use Rattle.std.specs.BTreeMap.{is_at}
 use Rattle.kinds.specs.Queue.{has_number, group_of}
 use Rattle.kinds.specs.declared.store.Item.{Item}
 use Rattle.lists.specs.Entries.{pair_cmp}
-use Rattle.ready_queue.specs.Held.{Group, Held}
+use Rattle.ready_queue.specs.Held.{Group, Groups, Held}
 use Rattle.ready_queue.specs.Store.{lifted}
 
 unfoldable pub has_pair : List (ℕ × ℕ) → ℕ → ℕ → Bool
@@ -13,6 +13,7 @@ has_pair pairs a b = list_any (is_at (pair_cmp (a, b))) pairs
 
 pub record Pool : Type 0 where
   pub items : List Item
+  pub ready : Groups
   pub waiting : List (ℕ × ℕ)
   pub horizon : ℕ
   pub clear : ℕ

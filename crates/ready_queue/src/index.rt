@@ -1,10 +1,10 @@
-ghost use Rattle.std.specs.Prelude.{◌≡◌, ◌+◌, ◌≤◌, ℕ, List, [], true, false, OnOk, OnErr};
-ghost use Rattle.std.specs.Bool.{OnFalse};
+ghost use Rattle.std.specs.Prelude.{◌≡◌, ◌+◌, ◌≤◌, ℕ, List, ◌⊎◌, [], true, false, None, OnOk, OnErr};
+ghost use Rattle.std.specs.Bool.{OnTrue, OnFalse};
 ghost use Rattle.kinds.specs.Cells.{last_moment};
 ghost use Rattle.ready_queue.specs.Different.{HasGroups, different};
 ghost use Rattle.ready_queue.specs.Keys.{has, Changes, IsLeastOpen, AreAlike};
 ghost use Rattle.ready_queue.specs.Opens.{opens, HaveStarts};
-ghost use Rattle.ready_queue.specs.Places.{lowered, IsRaised, IsRestored};
+ghost use Rattle.ready_queue.specs.Places.{place_at, lowered, IsRaised, IsRestored, IsParkedAt, ParksNone, ParksOne, AreShut};
 
 use crate::Gate;
 use crate::fronts::{Fronts, Place};
@@ -16,7 +16,7 @@ use std::collections::{BTreeMap, BTreeSet};
 use std::marker::Model;
 use std::sync::ledger::Ledger;
 
-/// The keys (group, score, number) of items, with a place for each group that has any. Contracts see the keys.
+/// The keys (group, score, number) of items, with a place for each group that has any and isn't parked.
 #[derive(Drop)]
 pub(crate) struct Index {
     keys: BTreeSet<(u64, u64, u64)>,
@@ -24,12 +24,11 @@ pub(crate) struct Index {
 }
 
 impl Model for Index {
-    ghost use Rattle.std.specs.Prelude.{List, ℕ};
-    ghost use Rattle.ready_queue.specs.Places.{IsIndexed};
+    ghost use Rattle.ready_queue.specs.Places.{Indexed, IsIndexed};
 
-    ghost Value = { List (ℕ × ℕ × ℕ) };
+    ghost Value = { Indexed };
 
-    ghost view = { λ i. i.keys.keys };
+    ghost view = { λ i. record { keys = i.keys.keys; places = i.fronts } };
 
     ghost invariant = { λ i. IsIndexed i.keys.keys i.fronts };
 }
@@ -79,7 +78,8 @@ fn restore(fronts: &mut Fronts, group: u64, old: Option<Place>)
 
 impl Index {
     pub(crate) fn empty(alloc: Global) -> Self
-        ensures { result ≡ [] }
+        ensures keys { result.keys ≡ [] }
+        ensures places { result.places ≡ [] }
     {
         Index {
             keys: BTreeSet::new(alloc),
@@ -87,11 +87,39 @@ impl Index {
         }
     }
 
-    /// Adds a key.
+    /// Whether a group has keys and no place.
+    fn is_parked(&self, group: u64) -> bool
+        ensures parked { OnTrue result (IsParkedAt group self.now) }
+        ensures other { OnFalse result (IsParkedAt group self.now → ⊥) }
+    {
+        if let Some(_place) = self.fronts.place(group) {
+            return false;
+        }
+        let Some(_least) = head(&self.keys, group) else {
+            return false;
+        };
+        true
+    }
+
+    // Adds a key of a group that is parked.
     #[tactic(auto, unfolding(crate::specs::Keys::Changes))]
-    pub(crate) fn add(&mut self, group: u64, score: u64, number: u64) -> Result<(), Memory>
-        ensures ok { OnOk result (Changes group score number true self.old self.new) }
-        ensures err { OnErr result (self.new ≡ self.old) }
+    fn add_parked(&mut self, group: u64, score: u64, number: u64) -> Result<(), Memory>
+        requires { IsParkedAt group self.old }
+        ensures ok { OnOk result (Changes group score number true self.old.keys self.new.keys) }
+        ensures err { OnErr result (self.new.keys ≡ self.old.keys) }
+        ensures parked { ParksNone self.old self.new }
+    {
+        self.keys.insert((group, score, number))?;
+        Ok(())
+    }
+
+    // Adds a key of a group that isn't parked.
+    #[tactic(auto, unfolding(crate::specs::Keys::Changes))]
+    fn add_placed(&mut self, group: u64, score: u64, number: u64) -> Result<(), Memory>
+        requires { IsParkedAt group self.old → ⊥ }
+        ensures ok { OnOk result (Changes group score number true self.old.keys self.new.keys) }
+        ensures err { OnErr result (self.new.keys ≡ self.old.keys) }
+        ensures parked { ParksNone self.old self.new }
     {
         let old = self.fronts.place(group);
         self.fronts.put(group, lowered(old, score, number))?;
@@ -104,11 +132,25 @@ impl Index {
         }
     }
 
+    /// Adds a key.
+    pub(crate) fn add(&mut self, group: u64, score: u64, number: u64) -> Result<(), Memory>
+        ensures ok { OnOk result (Changes group score number true self.old.keys self.new.keys) }
+        ensures err { OnErr result (self.new.keys ≡ self.old.keys) }
+        ensures parked { ParksNone self.old self.new }
+    {
+        if self.is_parked(group) {
+            self.add_parked(group, score, number)
+        } else {
+            self.add_placed(group, score, number)
+        }
+    }
+
     /// Takes a key out, and says whether its group has others.
     #[tactic(auto, unfolding(crate::specs::Keys::Changes))]
     pub(crate) fn remove(&mut self, group: u64, score: u64, number: u64) -> bool
-        ensures changes { Changes group score number false self.old self.new }
-        ensures others { OnFalse result ((s n : ℕ) → has self.new group s n ≡ false) }
+        ensures changes { Changes group score number false self.old.keys self.new.keys }
+        ensures others { OnFalse result ((s n : ℕ) → has self.new.keys group s n ≡ false) }
+        ensures parked { ParksNone self.old self.new }
     {
         self.keys.remove(&(group, score, number));
         match head(&self.keys, group) {
@@ -123,7 +165,45 @@ impl Index {
         }
     }
 
-    /// The least key for whose item the gate is open. Looks at each group once.
+    /// Takes a group's place.
+    pub(crate) fn park(&mut self, group: u64)
+        ensures keys { self.new.keys ≡ self.old.keys }
+        ensures parked { ParksOne group self.old self.new }
+    {
+        self.fronts.discard(group);
+    }
+
+    /// Gives a group a place again.
+    pub(crate) fn unpark(&mut self, group: u64) -> Result<(), Memory>
+        ensures keys { self.new.keys ≡ self.old.keys }
+        ensures parked { ParksNone self.old self.new }
+        ensures ok { OnOk result (IsParkedAt group self.new → ⊥) }
+    {
+        let Some((score, number)) = head(&self.keys, group) else {
+            return Ok(());
+        };
+        self.fronts.put(group, Place { score, number })?;
+        Ok(())
+    }
+
+    /// The number of the first item of the first group that has a place.
+    pub(crate) fn front(&self) -> Option<u64> {
+        let Some(first) = self.fronts.order().first() else {
+            return None;
+        };
+        let (_, _, group) = *first;
+        let Some((_, number)) = head(&self.keys, group) else {
+            return None;
+        };
+        Some(number)
+    }
+
+    /// How many groups aren't parked.
+    pub(crate) fn open_groups(&self) -> usize {
+        self.fronts.order().len()
+    }
+
+    /// The least key for whose item the gate is open. Looks once at each group that isn't parked.
     pub(crate) fn least_open<G: Gate, L: Ledger>(
         &self,
         items: &BTreeMap<u64, Item>,
@@ -131,11 +211,12 @@ impl Index {
         gate: &G,
         steps: &mut Steps<L>,
     ) -> Option<(u64, u64)>
-        requires alike { AreAlike (opens (G.is_open gate.now t) items.now.entries) self.now }
+        requires alike { AreAlike (opens (G.is_open gate.now t) items.now.entries) self.now.keys }
+        requires shut { AreShut (opens (G.is_open gate.now t) items.now.entries) self.now }
         requires starts { HaveStarts items.now.entries }
         requires moment { t ≤ last_moment }
-        ensures least { IsLeastOpen (opens (G.is_open gate.now t) items.now.entries) self.now result }
-        ensures asked { (gs : List ℕ) → HasGroups gs self.now → steps.new ≤ steps.old + different gs }
+        ensures least { IsLeastOpen (opens (G.is_open gate.now t) items.now.entries) self.now.keys result }
+        ensures asked { (gs : List ℕ) → HasGroups gs self.now.keys → steps.new ≤ steps.old + different gs }
     {
         least_open(items, &self.keys, self.fronts.order(), t, gate, steps)
     }

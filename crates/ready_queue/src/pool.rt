@@ -1,13 +1,13 @@
-ghost use Rattle.std.specs.Prelude.{◌≡◌, ◌+◌, ◌≤◌, ◌<◌, [], length, find, None, OnOk, OnErr, IfOk, true, false};
+ghost use Rattle.std.specs.Prelude.{◌≡◌, ◌⊎◌, ◌+◌, ◌≤◌, ◌<◌, IfSome, [], length, find, None, OnOk, OnErr, IfOk, true, false};
 ghost use Rattle.std.specs.Bool.{OnTrue, OnFalse};
 ghost use Rattle.kinds.specs.Cells.{IsStart, last_moment};
 ghost use Rattle.kinds.specs.Queue.{has_number, without_number, insert_item, least_admissible, groups_of, group_of, next_item};
 ghost use Rattle.ready_queue.specs.Heads.{second};
-ghost use Rattle.ready_queue.specs.Held.{holds, Goes};
+ghost use Rattle.ready_queue.specs.Held.{Group, holds, Goes, IsParked, AreFewer, AreOneMore, AreClosed};
 ghost use Rattle.ready_queue.specs.Pool.{NoneDue};
 ghost use Rattle.ready_queue.specs.Store.{IsScore, lifted};
 
-use crate::item::{group_of, lifted};
+use crate::item::{Group, group_of, lifted};
 use crate::ready::Ready;
 use crate::store::Store;
 use crate::{Entries, Gate};
@@ -37,15 +37,16 @@ impl Model for Pool {
 
     ghost Value = { Pool };
 
-    ghost view = { λ p. record { items = p.store; waiting = p.waiting.keys; horizon = p.horizon; clear = p.clear } };
+    ghost view = { λ p. record { items = p.store; ready = p.ready; waiting = p.waiting.keys; horizon = p.horizon; clear = p.clear } };
 
-    ghost invariant = { λ p. IsPool p.store (holds p.ready) p.waiting.keys p.horizon p.clear };
+    ghost invariant = { λ p. IsPool p.store (holds p.ready.held) p.waiting.keys p.horizon p.clear };
 }
 
 /// Takes an item out of its group, and gives it back.
 fn leave(ready: &mut Ready, item: Item) -> Item
     ensures item { result ≡ item }
-    ensures goes { Goes (group_of item) (lifted item.score) item.number (holds ready.old) (holds ready.new) }
+    ensures goes { Goes (group_of item) (lifted item.score) item.number (holds ready.old.held) (holds ready.new.held) }
+    ensures parked { AreFewer ready.old ready.new }
 {
     let counted = lifted(&item);
     let Item {
@@ -84,7 +85,8 @@ fn second(best: Option<(u64, u64)>) -> Option<u64>
 
 impl Pool {
     pub(crate) fn empty(alloc: Global) -> Self
-        ensures { result.items ≡ [] }
+        ensures items { result.items ≡ [] }
+        ensures parked { (k : Group) → IsParked result.ready k → ⊥ }
     {
         Pool {
             store: Store::empty(alloc),
@@ -102,6 +104,7 @@ impl Pool {
         requires due { item.due ≤ self.old.horizon }
         ensures ok { OnOk result (self.new.items ≡ insert_item item self.old.items) }
         ensures err { OnErr result (self.new.items ≡ self.old.items) }
+        ensures parked { AreFewer self.old.ready self.new.ready }
     {
         let group = group_of(&item)?;
         let (score, number) = (lifted(&item), item.number);
@@ -123,6 +126,7 @@ impl Pool {
         requires due { self.old.horizon < item.due }
         ensures ok { OnOk result (self.new.items ≡ insert_item item self.old.items) }
         ensures err { OnErr result (self.new.items ≡ self.old.items) }
+        ensures parked { AreFewer self.old.ready self.new.ready }
     {
         let place = (item.due, item.number);
         self.waiting.insert(place)?;
@@ -141,6 +145,7 @@ impl Pool {
         requires start { IsStart item.start }
         ensures ok { OnOk result (self.new.items ≡ insert_item item self.old.items) }
         ensures err { OnErr result (self.new.items ≡ self.old.items) }
+        ensures parked { AreFewer self.old.ready self.new.ready }
     {
         let _score = lifted(&item);
         if item.due <= self.horizon {
@@ -150,15 +155,16 @@ impl Pool {
         }
     }
 
-    /// The first in order of the items that are due and for which the gate is open. Looks at each group once where
-    /// the groups have what is due at the moment, and else at all items.
+    /// The first in order of the items that are due and for which the gate is open. Looks once at each group
+    /// that isn't parked where the groups have what is due at the moment, and else at all items.
     pub(crate) fn least_admissible<G: Gate, L: Ledger>(
         &self,
         t: u64,
         gate: &G,
         steps: &mut Steps<L>,
     ) -> Option<u64>
-        requires { t ≤ last_moment }
+        requires moment { t ≤ last_moment }
+        requires closed { AreClosed (G.is_open gate.now t) self.now.ready }
         ensures least { result ≡ least_admissible (G.is_open gate.now t) t self.now.items }
         ensures asked { steps.new ≤ steps.old + groups_of self.now.items }
     {
@@ -172,6 +178,7 @@ impl Pool {
     pub(crate) fn take(&mut self, number: u64) -> Option<Item>
         ensures value { result ≡ find (has_number number) self.old.items }
         ensures left { self.new.items ≡ without_number number self.old.items }
+        ensures parked { AreFewer self.old.ready self.new.ready }
     {
         let item = self.store.take(number)?;
         self.waiting.remove(&(item.due, number));
@@ -185,6 +192,7 @@ impl Pool {
         ensures clear { self.new.clear ≡ self.old.clear }
         ensures moved { IfOk result (λ b. OnTrue b (length self.new.waiting < length self.old.waiting)) }
         ensures done { IfOk result (λ b. OnFalse b (NoneDue self.new.waiting self.new.horizon)) }
+        ensures parked { AreFewer self.old.ready self.new.ready }
     {
         let Some(first) = self.waiting.first() else {
             return Ok(false);
@@ -220,7 +228,8 @@ impl Pool {
     /// What is due by the moment goes into its group.
     fn ripen(&mut self, t: u64) -> Result<(), Memory>
         requires { self.old.horizon ≤ t }
-        ensures { self.new.items ≡ self.old.items }
+        ensures items { self.new.items ≡ self.old.items }
+        ensures parked { AreFewer self.old.ready self.new.ready }
     {
         self.set_horizon(t);
         while self.move_one()? {}
@@ -230,12 +239,46 @@ impl Pool {
 
     /// Lets a moment come. Does nothing where it is past.
     pub(crate) fn pass(&mut self, t: u64) -> Result<(), Memory>
-        ensures { self.new.items ≡ self.old.items }
+        ensures items { self.new.items ≡ self.old.items }
+        ensures parked { AreFewer self.old.ready self.new.ready }
     {
         if t < self.horizon {
             return Ok(());
         }
         self.ripen(t)
+    }
+
+    /// Parks the group of an item.
+    pub(crate) fn park(&mut self, group: &Group)
+        ensures items { self.new.items ≡ self.old.items }
+        ensures parked { AreOneMore group.now self.old.ready self.new.ready }
+    {
+        self.ready.park(group);
+    }
+
+    /// Looks at a group again.
+    pub(crate) fn unpark(&mut self, group: &Group) -> Result<(), Memory>
+        ensures items { self.new.items ≡ self.old.items }
+        ensures parked { AreFewer self.old.ready self.new.ready }
+        ensures ok { OnOk result (IsParked self.new.ready group.now → ⊥) }
+    {
+        self.ready.unpark(group)?;
+        Ok(())
+    }
+
+    /// The first item of the first group that isn't parked.
+    pub(crate) fn front(&self) -> Option<&Item>
+        ensures { IfSome result (λ i. IsStart i.now.start) }
+    {
+        let Some(number) = self.ready.front() else {
+            return None;
+        };
+        self.store.at(number)
+    }
+
+    /// How many groups aren't parked.
+    pub(crate) fn open_groups(&self) -> usize {
+        self.ready.open_groups()
     }
 
     /// The least of the items' next moments.

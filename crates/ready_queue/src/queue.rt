@@ -1,17 +1,13 @@
-ghost use Rattle.std.specs.Prelude.{◌≡◌, ◌+◌, ◌≤◌, [], find, None, OnOk, OnErr, IfSome};
-ghost use Rattle.std.specs.Option.{IfNone};
+ghost use Rattle.std.specs.Prelude.{◌≡◌, ◌+◌, ◌≤◌, [], find, None, OnOk, OnErr};
 ghost use Rattle.kinds.specs.Cells.{IsStart, last_moment};
-ghost use Rattle.kinds.specs.Queue.{has_number, has_run, number_of, without_number, without_run, insert_item, least_admissible, groups_of, next_item};
-ghost use Rattle.ordered.specs.Indexes.{IsTakenOf};
-ghost use Rattle.ready_queue.specs.Runs.{run_of};
+ghost use Rattle.kinds.specs.Queue.{has_number, without_number, without_run, insert_item, least_admissible, groups_of, next_item};
 
-use crate::pool::Pool;
+use crate::listed::Listed;
 use crate::{Entries, Gate};
 use concurrency_keys::ConcurrencyKeys;
 use kinds::{Item, Steps};
 use lists::Memory;
 use std::alloc::Global;
-use std::collections::BTreeSet;
 use std::marker::Model;
 use std::sync::ledger::Ledger;
 use throttle::Starts;
@@ -20,23 +16,19 @@ use throttle::Starts;
 /// since 1970.
 #[derive(Drop)]
 pub struct ReadyQueue {
-    pool: Pool,
-    runs: BTreeSet<(u64, u64)>,
+    listed: Listed,
 }
 
 impl Model for ReadyQueue {
     ghost use Rattle.std.specs.Prelude.{List};
-    ghost use Rattle.std.specs.Ordering.{nat_cmp};
-    ghost use Rattle.kinds.specs.Queue.{number_of};
     ghost use Rattle.kinds.specs.declared.store.Item.{Item};
-    ghost use Rattle.ordered.specs.Indexes.{IsListed};
-    ghost use Rattle.ready_queue.specs.Runs.{run_of};
+    ghost use Rattle.ready_queue.specs.Held.{ParksNothing};
 
     ghost Value = { List Item };
 
-    ghost view = { λ q. q.pool.items };
+    ghost view = { λ q. q.listed.items };
 
-    ghost invariant = { λ q. IsListed nat_cmp run_of number_of q.pool.items q.runs.keys };
+    ghost invariant = { λ q. ParksNothing q.listed.ready };
 }
 
 impl ReadyQueue {
@@ -45,8 +37,7 @@ impl ReadyQueue {
         ensures { result ≡ [] }
     {
         ReadyQueue {
-            pool: Pool::empty(alloc),
-            runs: BTreeSet::new(alloc),
+            listed: Listed::empty(alloc),
         }
     }
 
@@ -57,15 +48,8 @@ impl ReadyQueue {
         ensures ok { OnOk result (self.new ≡ insert_item item self.old) }
         ensures err { OnErr result (self.new ≡ self.old) }
     {
-        let key = (item.run, item.number);
-        self.runs.insert(key)?;
-        match self.pool.add(item) {
-            Ok(()) => Ok(()),
-            Err(_) => {
-                self.runs.remove(&key);
-                Err(Memory)
-            }
-        }
+        self.listed.add(item)?;
+        Ok(())
     }
 
     /// Lets a moment come: from now on `least_admissible` looks at each group of items that are due once, and at no
@@ -73,7 +57,7 @@ impl ReadyQueue {
     pub fn pass(&mut self, t: u64) -> Result<(), Memory>
         ensures { self.new ≡ self.old }
     {
-        self.pool.pass(t)?;
+        self.listed.pass(t)?;
         Ok(())
     }
 
@@ -90,7 +74,7 @@ impl ReadyQueue {
         ensures least { result ≡ least_admissible (G.is_open gate.now t) t self.now }
         ensures asked { steps.new ≤ steps.old + groups_of self.now }
     {
-        self.pool.least_admissible(t, gate, steps)
+        self.listed.least_admissible(t, gate, steps)
     }
 
     /// Takes an item out.
@@ -98,31 +82,14 @@ impl ReadyQueue {
         ensures value { result ≡ find (has_number number) self.old }
         ensures left { self.new ≡ without_number number self.old }
     {
-        let item = self.pool.take(number)?;
-        self.runs.remove(&(item.run, number));
-        Some(item)
-    }
-
-    // Takes out an item of a run.
-    fn take_of(&mut self, run: u64) -> Option<Item>
-        ensures one { IfSome result (λ item. IsTakenOf run_of number_of run self.old item self.new) }
-        ensures same { IfNone result (self.new ≡ self.old) }
-        ensures none { IfNone result (find (has_run run) self.old ≡ None) }
-    {
-        let Some(&(found, number)) = self.runs.range((run, 0)..).next() else {
-            return None;
-        };
-        if found != run {
-            return None;
-        }
-        self.take(number)
+        self.listed.take(number)
     }
 
     /// Drops the items of a run. Looks at these alone.
     pub fn remove_run(&mut self, run: u64)
         ensures { self.new ≡ without_run run self.old }
     {
-        while let Some(_item) = self.take_of(run) {}
+        self.listed.remove_run(run);
     }
 
     /// The least of the dues past a moment, and of the releases of starts that due items wait for whose cells
@@ -131,13 +98,13 @@ impl ReadyQueue {
         requires { t ≤ last_moment }
         ensures { result ≡ next_item cells.now throttle.now t self.now }
     {
-        self.pool.next(t, cells, throttle)
+        self.listed.next(t, cells, throttle)
     }
 
     /// The items by reference, in order of number.
     pub fn entries(&self) -> Entries<'_>
         ensures { result ≡ self.now }
     {
-        self.pool.entries()
+        self.listed.entries()
     }
 }

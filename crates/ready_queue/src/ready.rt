@@ -1,7 +1,8 @@
-ghost use Rattle.std.specs.Prelude.{◌≡◌, ◌+◌, ◌≤◌, ℕ, List, length, Some, None, true, false, OnOk, OnErr, IfOk};
+ghost use Rattle.std.specs.Prelude.{◌≡◌, ◌⊎◌, ◌+◌, ◌≤◌, ℕ, List, length, Some, None, true, false, OnOk, OnErr, IfOk};
 ghost use Rattle.kinds.specs.Cells.{last_moment};
 ghost use Rattle.kinds.specs.declared.store.Item.{Item};
-ghost use Rattle.ready_queue.specs.Held.{Group, name_at, holds, AreSame, Comes, Goes, IsLeastHeld, AreOf, HasEach};
+ghost use Rattle.ready_queue.specs.Held.{Group, name_at, holds, AreSame, Comes, Goes, ComesNamed};
+ghost use Rattle.ready_queue.specs.Held.{IsLeastHeld, AreOf, HasEach, IsParked, AreFewer, AreOneMore, AreClosed};
 ghost use Rattle.ready_queue.specs.Keys.{Changes};
 ghost use Rattle.ready_queue.specs.Opens.{HaveStarts};
 
@@ -24,18 +25,19 @@ pub(crate) struct Ready {
 }
 
 impl Model for Ready {
-    ghost use Rattle.ready_queue.specs.Held.{Ready, IsNamed};
+    ghost use Rattle.ready_queue.specs.Held.{Groups, IsNamed};
 
-    ghost Value = { Ready };
+    ghost Value = { Groups };
 
-    ghost view = { λ r. record { names = r.names.entries; keys = r.index } };
+    ghost view = { λ r. record { held = record { names = r.names.entries; keys = r.index.keys }; places = r.index.places } };
 
-    ghost invariant = { λ r. IsNamed r.names.entries r.index r.next };
+    ghost invariant = { λ r. IsNamed r.names.entries r.index.keys r.next };
 }
 
 impl Ready {
     pub(crate) fn empty(alloc: Global) -> Self
-        ensures { (k : Group) (s n : ℕ) → holds result k s n ≡ false }
+        ensures none { (k : Group) (s n : ℕ) → holds result.held k s n ≡ false }
+        ensures parked { (k : Group) → IsParked result k → ⊥ }
     {
         Ready {
             names: BTreeMap::new(alloc),
@@ -46,9 +48,10 @@ impl Ready {
 
     // Gives a group a number that it hasn't. A number of 2^64 counts as want of memory.
     fn give_name(&mut self, group: &Group) -> Result<u64, Memory>
-        requires { name_at group.now self.old.names ≡ None }
-        ensures ok { IfOk result (λ name. name_at group.now self.new.names ≡ Some name) }
-        ensures same { AreSame (holds self.old) (holds self.new) }
+        requires { name_at group.now self.old.held.names ≡ None }
+        ensures ok { IfOk result (λ name. name_at group.now self.new.held.names ≡ Some name) }
+        ensures same { AreSame (holds self.old.held) (holds self.new.held) }
+        ensures parked { AreFewer self.old self.new }
     {
         let name = self.next;
         let Some(next) = name.checked_add(1) else {
@@ -62,8 +65,9 @@ impl Ready {
 
     /// The number of a group, which has one from now on.
     fn name(&mut self, group: &Group) -> Result<u64, Memory>
-        ensures ok { IfOk result (λ name. name_at group.now self.new.names ≡ Some name) }
-        ensures same { AreSame (holds self.old) (holds self.new) }
+        ensures ok { IfOk result (λ name. name_at group.now self.new.held.names ≡ Some name) }
+        ensures same { AreSame (holds self.old.held) (holds self.new.held) }
+        ensures parked { AreFewer self.old self.new }
     {
         match self.names.get(group).copied() {
             Some(name) => Ok(name),
@@ -73,9 +77,10 @@ impl Ready {
 
     // Adds a key of a group that has a number.
     fn put(&mut self, name: u64, score: u64, number: u64) -> Result<(), Memory>
-        requires { (k : Group) × (name_at k self.old.names ≡ Some name) }
-        ensures ok { OnOk result ((k : Group) → name_at k self.old.names ≡ Some name → Comes k score number (holds self.old) (holds self.new)) }
-        ensures err { OnErr result (AreSame (holds self.old) (holds self.new)) }
+        requires { (k : Group) × (name_at k self.old.held.names ≡ Some name) }
+        ensures ok { OnOk result (ComesNamed name score number self.old.held self.new.held) }
+        ensures err { OnErr result (AreSame (holds self.old.held) (holds self.new.held)) }
+        ensures parked { AreFewer self.old self.new }
     {
         self.index.add(name, score, number)?;
         Ok(())
@@ -83,8 +88,9 @@ impl Ready {
 
     /// Adds an item's group, score and number.
     pub(crate) fn add(&mut self, group: &Group, score: u64, number: u64) -> Result<(), Memory>
-        ensures ok { OnOk result (Comes group.now score number (holds self.old) (holds self.new)) }
-        ensures err { OnErr result (AreSame (holds self.old) (holds self.new)) }
+        ensures ok { OnOk result (Comes group.now score number (holds self.old.held) (holds self.new.held)) }
+        ensures err { OnErr result (AreSame (holds self.old.held) (holds self.new.held)) }
+        ensures parked { AreFewer self.old self.new }
     {
         let name = self.name(group)?;
         self.put(name, score, number)?;
@@ -93,7 +99,8 @@ impl Ready {
 
     /// Takes an item's group, score and number out.
     pub(crate) fn remove(&mut self, group: &Group, score: u64, number: u64)
-        ensures { Goes group.now score number (holds self.old) (holds self.new) }
+        ensures goes { Goes group.now score number (holds self.old.held) (holds self.new.held) }
+        ensures parked { AreFewer self.old self.new }
     {
         let Some(name) = self.names.get(group).copied() else {
             return;
@@ -103,7 +110,41 @@ impl Ready {
         }
     }
 
-    /// The least score and number for whose group the gate is open. Looks at each group once.
+    /// Parks a group.
+    pub(crate) fn park(&mut self, group: &Group)
+        ensures held { self.new.held ≡ self.old.held }
+        ensures parked { AreOneMore group.now self.old self.new }
+    {
+        let Some(name) = self.names.get(group).copied() else {
+            return;
+        };
+        self.index.park(name);
+    }
+
+    /// Looks at a group again.
+    pub(crate) fn unpark(&mut self, group: &Group) -> Result<(), Memory>
+        ensures held { self.new.held ≡ self.old.held }
+        ensures parked { AreFewer self.old self.new }
+        ensures ok { OnOk result (IsParked self.new group.now → ⊥) }
+    {
+        let Some(name) = self.names.get(group).copied() else {
+            return Ok(());
+        };
+        self.index.unpark(name)?;
+        Ok(())
+    }
+
+    /// The number of the first item of the first group that isn't parked.
+    pub(crate) fn front(&self) -> Option<u64> {
+        self.index.front()
+    }
+
+    /// How many groups aren't parked.
+    pub(crate) fn open_groups(&self) -> usize {
+        self.index.open_groups()
+    }
+
+    /// The least score and number for whose group the gate is open. Looks once at each group that isn't parked.
     pub(crate) fn least_open<G: Gate, L: Ledger>(
         &self,
         items: &BTreeMap<u64, Item>,
@@ -111,11 +152,12 @@ impl Ready {
         gate: &G,
         steps: &mut Steps<L>,
     ) -> Option<(u64, u64)>
-        requires of { AreOf items.now.entries (holds self.now) }
+        requires of { AreOf items.now.entries (holds self.now.held) }
         requires starts { HaveStarts items.now.entries }
         requires moment { t ≤ last_moment }
-        ensures least { IsLeastHeld (G.is_open gate.now t) (holds self.now) result }
-        ensures asked { (firsts : List Item) → HasEach firsts (holds self.now) → steps.new ≤ steps.old + length firsts }
+        requires closed { AreClosed (G.is_open gate.now t) self.now }
+        ensures least { IsLeastHeld (G.is_open gate.now t) (holds self.now.held) result }
+        ensures asked { (fs : List Item) → HasEach fs (holds self.now.held) → steps.new ≤ steps.old + length fs }
     {
         self.index.least_open(items, t, gate, steps)
     }

@@ -1,4 +1,4 @@
-ghost use Rattle.std.specs.Prelude.{◌≡◌, ◌+◌, ◌≤◌, [], find, None, OnOk, OnErr};
+ghost use Rattle.std.specs.Prelude.{◌≡◌, ◌+◌, ◌≤◌, [], find, None, OnOk, OnErr, IfSome};
 ghost use Rattle.std.specs.BTreeMap.{values};
 ghost use Rattle.std.specs.Option.{option_copied};
 ghost use Rattle.kinds.specs.Cells.{IsStart, last_moment};
@@ -61,6 +61,16 @@ impl Store {
         ensures { option_copied result ≡ find (has_number number) self.now }
     {
         self.items.get(&number)
+    }
+
+    /// The item of a number, where one has it.
+    pub(crate) fn at(&self, number: u64) -> Option<&Item>
+        ensures { IfSome result (λ i. IsStart i.now.start) }
+    {
+        let Some(item) = self.items.get(&number) else {
+            return None;
+        };
+        Some(item)
     }
 
     /// The first in order of the items that are due and for which the gate is open.

@@ -105,7 +105,7 @@ pub(crate) fn least_open<G: Gate, L: Ledger>(
     requires alike { AreAlike (opens (G.is_open gate.now t) items.now.entries) keys.now.keys }
     requires starts { HaveStarts items.now.entries }
     requires moment { t ≤ last_moment }
-    requires lead { Lead places.now.keys keys.now.keys }
+    requires lead { Lead (opens (G.is_open gate.now t) items.now.entries) places.now.keys keys.now.keys }
     ensures least { IsLeastOpen (opens (G.is_open gate.now t) items.now.entries) keys.now.keys result }
     ensures asked { steps.new ≤ steps.old + length places.now.keys }
     ensures ordered { IsStrictlySortedBy key_cmp places.now.keys }

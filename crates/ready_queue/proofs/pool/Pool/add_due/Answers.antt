@@ -11,15 +11,15 @@ pub invariant_of-self-in-Ok : goal.invariant_of-self-in-Ok
 invariant_of-self-in-Ok c =
     let none = ap (λ (q : Pool). find (has_number c.args.item.number) q.items) c.self.view_is ∙ c.requires.fresh in
     let near = subst (λ (q : Pool). c.args.item.due ≤ q.horizon) (sym c.self.view_is) c.requires.due in
-    let score = subst (λ s. Comes c.in_ok-group.group s c.args.item.number (holds c.self.inside.ready) (holds c.add.new.self)) c.lifted-score.ensures.value c.in_ok-add.ensures.ok in
-    let comes = subst (λ (k : Group). Comes k (lifted c.args.item.score) c.args.item.number (holds c.self.inside.ready) (holds c.add.new.self)) c.in_ok-group.ensures score in
+    let score = subst (λ s. Comes c.in_ok-group.group s c.args.item.number (holds c.self.inside.ready.held) (holds c.add.new.self.held)) c.lifted-score.ensures.value c.in_ok-add.ensures.ok in
+    let comes = subst (λ (k : Group). Comes k (lifted c.args.item.score) c.args.item.number (holds c.self.inside.ready.held) (holds c.add.new.self.held)) c.in_ok-group.ensures score in
     pool_ready _ _ c.args.item _ _ _ _ _ c.self.invariant none c.in-Ok.ensures.ok comes near
 
 pub invariant_of-self-in-Err : goal.invariant_of-self-in-Err
 invariant_of-self-in-Err c =
     let none = ap (λ (q : Pool). find (has_number c.args.item.number) q.items) c.self.view_is ∙ c.requires.fresh in
-    let score = subst (λ s. Comes c.in_ok-group.group s c.args.item.number (holds c.self.inside.ready) (holds c.add.new.self)) c.lifted-score.ensures.value c.in_ok-add.ensures.ok in
-    let comes = subst (λ (k : Group). Comes k (lifted c.args.item.score) c.args.item.number (holds c.self.inside.ready) (holds c.add.new.self)) c.in_ok-group.ensures score in
-    let back = subst (λ s. Goes c.in_ok-group.group s c.args.item.number (holds c.add.new.self) (holds c.remove.new.self)) c.lifted-score.ensures.value c.remove.ensures in
-    let goes = subst (λ (k : Group). Goes k (lifted c.args.item.score) c.args.item.number (holds c.add.new.self) (holds c.remove.new.self)) c.in_ok-group.ensures back in
+    let score = subst (λ s. Comes c.in_ok-group.group s c.args.item.number (holds c.self.inside.ready.held) (holds c.add.new.self.held)) c.lifted-score.ensures.value c.in_ok-add.ensures.ok in
+    let comes = subst (λ (k : Group). Comes k (lifted c.args.item.score) c.args.item.number (holds c.self.inside.ready.held) (holds c.add.new.self.held)) c.in_ok-group.ensures score in
+    let back = subst (λ s. Goes c.in_ok-group.group s c.args.item.number (holds c.add.new.self.held) (holds c.remove.new.self.held)) c.lifted-score.ensures.value c.remove.ensures.goes in
+    let goes = subst (λ (k : Group). Goes k (lifted c.args.item.score) c.args.item.number (holds c.add.new.self.held) (holds c.remove.new.self.held)) c.in_ok-group.ensures back in
     pool_unready _ _ c.args.item _ _ _ _ _ _ c.self.invariant none c.in-Err.ensures.err comes goes

@@ -15,6 +15,6 @@ returns-then-self-due-clause-done c = subst (λ (q : Pool). NoneDue q.waiting q.
 pub invariant_of-self-2 : goal.invariant_of-self-2
 unfolding Gone
 invariant_of-self-2 c =
-    let score = subst (λ s. Comes c.in_ok-group.group s c.in-Some.first.now.1 (holds c.self.inside.ready) (holds c.add.new.self)) c.lifted.ensures.value c.in_ok-add.ensures.ok in
-    let comes = subst (λ (k : Group). Comes k (lifted c.in-Some-get.item.now.score) c.in-Some.first.now.1 (holds c.self.inside.ready) (holds c.add.new.self)) c.in_ok-group.ensures score in
+    let score = subst (λ s. Comes c.in_ok-group.group s c.in-Some.first.now.1 (holds c.self.inside.ready.held) (holds c.add.new.self.held)) c.lifted.ensures.value c.in_ok-add.ensures.ok in
+    let comes = subst (λ (k : Group). Comes k (lifted c.in-Some-get.item.now.score) c.in-Some.first.now.1 (holds c.self.inside.ready.held) (holds c.add.new.self.held)) c.in_ok-group.ensures score in
     pool_moved _ _ _ _ c.in-Some-get.item.now _ _ _ _ _ c.self.invariant c.in-Some-get.ensures c.in-Some.ensures.member c.if-self-due.false comes c.remove.ensures.updates.0

@@ -14,5 +14,5 @@ unfolding Gone
 invariant_of-self-2 c =
     let number = found_number c.args.number c.self.inside.store c.in_ok-item.item (sym c.in_ok-item.ensures.value) in
     pool_taken c.args.number _ _ c.in_ok-item.item _ _ _ _ _ _ c.self.invariant c.in_ok-item.ensures.value c.take.ensures.left
-    (subst (λ n. Goes (group_of c.in_ok-item.item) (lifted c.in_ok-item.item.score) n (holds c.self.inside.ready) (holds c.leave.new.ready)) (sym number) c.leave.ensures.goes)
+    (subst (λ n. Goes (group_of c.in_ok-item.item) (lifted c.in_ok-item.item.score) n (holds c.self.inside.ready.held) (holds c.leave.new.ready.held)) (sym number) c.leave.ensures.goes)
     c.remove.ensures.updates.0

@@ -1,13 +1,7 @@
-use Rattle.std.proofs.Common.{List, sym, subst}
-use Rattle.std.specs.Ordering.{nat_cmp}
-use Rattle.kinds.specs.Queue.{number_of}
-use Rattle.kinds.specs.declared.store.Item.{Item}
-use Rattle.ordered.specs.Indexes.{IsListed}
-use Rattle.ready_queue.specs.Runs.{run_of}
 use Rattle.ready_queue.proofs.queue.ReadyQueue.pass.Goals as goal
 
 pub invariant_of-self : goal.invariant_of-self
-invariant_of-self c = subst (λ (is : List Item). IsListed nat_cmp run_of number_of is c.self.inside.runs.keys) (sym c.pass.ensures) c.self.invariant
+invariant_of-self c = λ k p. c.self.invariant k (c.pass.ensures.parked k p)
 
 pub invariant_of-self-2 : goal.invariant_of-self-2
-invariant_of-self-2 c = subst (λ (is : List Item). IsListed nat_cmp run_of number_of is c.self.inside.runs.keys) (sym c.pass.ensures) c.self.invariant
+invariant_of-self-2 c = λ k p. c.self.invariant k (c.pass.ensures.parked k p)
