@@ -9,4 +9,5 @@ pub mod RankLemmas
 pub mod ReadyLemmas
 pub mod RunLemmas
 pub mod ScanLemmas
+pub mod Shut
 pub mod WalkLemmas
