@@ -1,5 +1,5 @@
 -- Which items are ready: those of a group, a score counted from the least that there is, and a number.
-use Rattle.std.specs.Prelude.{◌≡◌, ◌⊎◌, ◌<◌, ℕ, Bool, true, false, List, Option, Some, None}
+use Rattle.std.specs.Prelude.{◌≡◌, ◌⊎◌, ◌+◌, ◌<◌, ◌≤◌, length, ℕ, Bool, true, false, List, Option, Some, None}
 use Rattle.std.specs.List.{list_any}
 use Rattle.std.specs.BTreeMap.{is_at}
 use Rattle.std.specs.Map.{lookup}
@@ -110,3 +110,7 @@ is_of k item = is_at (group_cmp k) (group_of item)
 -- among the items are some of each group
 abbrev pub HasEach : List Item → Held → Type 0
 HasEach items held = (k : Group) (s n : ℕ) → held k s n ≡ true → list_any (is_of k) items ≡ true
+
+-- no more are asked than there are items, where these have each group
+abbrev pub AsksFew : Held → ℕ → ℕ → Type 0
+AsksFew held old new = (items : List Item) → HasEach items held → new ≤ old + length items

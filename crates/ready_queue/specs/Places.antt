@@ -1,5 +1,6 @@
 -- Places of groups, and the order that the groups stand in by them.
-use Rattle.std.specs.Prelude.{◌≡◌, ◌⊎◌, ℕ, cond, ◌==◌, Bool, true, false, not, ◌&&◌, ◌||◌, List, Option, Some, None, if◌then◌else◌}
+use Rattle.std.specs.Prelude.{◌≡◌, ◌⊎◌, ℕ, cond, ◌==◌, Bool, true, false, not, ◌&&◌, ◌||◌}
+use Rattle.std.specs.Prelude.{List, Option, Some, None, if◌then◌else◌}
 use Rattle.std.specs.BTreeMap.{is_at}
 use Rattle.std.specs.Map.{lookup}
 use Rattle.std.specs.Ordering.{nat_cmp}
@@ -19,11 +20,13 @@ unfoldable pub IsFronts : List (ℕ × ℕ × ℕ) → List (ℕ × Place) → T
 IsFronts order places = (s n g : ℕ) → has order s n g ≡ is_front s n (place_at g places)
 
 unfoldable pub IsShown : ℕ → Place → List (ℕ × ℕ × ℕ) → List (ℕ × ℕ × ℕ) → Type 0
-IsShown group place old new = (s n g : ℕ) → has new s n g ≡ (has old s n g || (g == group && is_front s n (Some place)))
+IsShown group place old new =
+    (s n g : ℕ) → has new s n g ≡ (has old s n g || (g == group && is_front s n (Some place)))
 
 unfoldable pub IsHidden : ℕ → Place → Option Place → List (ℕ × ℕ × ℕ) → List (ℕ × ℕ × ℕ) → Type 0
 IsHidden group was place old new =
-    (s n g : ℕ) → has new s n g ≡ (has old s n g && not (g == group && s == was.score && n == was.number && not (is_front s n place)))
+    (s n g : ℕ)
+    → has new s n g ≡ (has old s n g && not (g == group && s == was.score && n == was.number && not (is_front s n place)))
 
 -- one group's place came, went or took the place of another
 unfoldable pub Puts : ℕ → Option Place → List (ℕ × Place) → List (ℕ × Place) → Type 0
@@ -39,10 +42,13 @@ abbrev pub IsLedBy : Option Place → ℕ × ℕ → Type 0
 IsLedBy None x = Unit {0}
 IsLedBy (Some place) x = at_most (place.score, place.number) x ≡ true
 
--- the place of a group, where it has one, isn't after any of its keys, and each group that has a place has a key
+abbrev pub HasKey : List (ℕ × ℕ × ℕ) → ℕ → Type 0
+HasKey keys g = (s : ℕ) × (n : ℕ) × (has keys g s n ≡ true)
+
+-- the place of a group, where it has one, isn't after any of its keys; a group that has a place has a key
 pub record IsIndexed (keys : List (ℕ × ℕ × ℕ)) (places : List (ℕ × Place)) : Type 0 where
   pub led : (g s n : ℕ) → has keys g s n ≡ true → IsLedBy (place_at g places) (s, n)
-  pub used : (g : ℕ) (place : Place) → place_at g places ≡ Some place → (s : ℕ) × (n : ℕ) × (has keys g s n ≡ true)
+  pub used : (g : ℕ) (place : Place) → place_at g places ≡ Some place → HasKey keys g
 
 -- the place that a group gets with a further key: its own, where this isn't after the key
 abbrev pub lowered : Option Place → ℕ → ℕ → Place
@@ -54,7 +60,9 @@ lowered (Some place) s n =
 abbrev pub IsRaised : ℕ → ℕ × ℕ → List (ℕ × Place) → List (ℕ × Place) → Type 0
 IsRaised group least old new =
     (new ≡ old)
-    ⊎ ((was : Place) × (place_at group old ≡ Some was) × Puts group (Some (record { score = least.0; number = least.1 })) old new)
+    ⊎ ((was : Place)
+    × (place_at group old ≡ Some was)
+    × Puts group (Some (record { score = least.0; number = least.1 })) old new)
 
 -- a place that was there before stays, and one that wasn't goes
 abbrev pub IsRestored : ℕ → Option Place → List (ℕ × Place) → List (ℕ × Place) → Type 0

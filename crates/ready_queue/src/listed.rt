@@ -18,7 +18,8 @@ use std::marker::Model;
 use std::sync::ledger::Ledger;
 use throttle::Starts;
 
-/// Items that wait to be issued, found by run too. Contracts see the items, and the groups of those that are ready.
+/// Items that wait to be issued, found by run too. Contracts see the items, and the groups of those that are
+/// ready.
 #[derive(Drop)]
 pub(crate) struct Listed {
     pool: Pool,

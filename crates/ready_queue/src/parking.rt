@@ -22,9 +22,10 @@ use std::marker::Model;
 use std::sync::ledger::Ledger;
 use throttle::Starts;
 
-/// Items that wait to be issued, as in a [`ReadyQueue`](crate::ReadyQueue). A group that can't be open is parked: at
-/// a cell that is full, or till the moment before which its throttle lets no run start. It isn't looked at till the
-/// cell is named to `freed` or the moment has come. Contracts see the items, and which groups are parked where.
+/// Items that wait to be issued, as in a [`ReadyQueue`](crate::ReadyQueue). A group that can't be open is parked:
+/// at a cell that is full, or till the moment before which its throttle lets no run start. It isn't looked at
+/// till the cell is named to `freed` or the moment has come. Contracts see the items, and which groups are parked
+/// where. Moments are milliseconds since 1970.
 #[derive(Drop)]
 pub struct ParkingQueue {
     listed: Listed,
@@ -203,8 +204,8 @@ impl ParkingQueue {
         Ok(())
     }
 
-    /// Lets a moment come: the groups that are parked till then are looked at again, and `settle_next` looks at no
-    /// item that isn't due, while it is asked for this moment.
+    /// Lets a moment come: the groups that are parked till then are looked at again, and `settle_next` looks at
+    /// no item that isn't due, while it is asked for this moment.
     pub fn pass(&mut self, t: u64) -> Result<(), Memory>
         ensures items { self.new.items ≡ self.old.items }
         ensures full { self.new.full ≡ self.old.full }
@@ -240,7 +241,7 @@ impl ParkingQueue {
         Ok(true)
     }
 
-    // Parks the first group that isn't parked, where its start is let at a later moment, and says whether it did.
+    // Parks the first group that isn't parked, where its start is let later, and says whether it did.
     fn park_till(
         &mut self,
         t: u64,
@@ -313,8 +314,9 @@ impl ParkingQueue {
         self.listed.least_admissible(t, &gate, steps)
     }
 
-    /// The first in order of score and number of the items that are due, whose cells are free, and that the throttle
-    /// lets start. Parks each group before it that can't be open; without memory for this, one isn't parked.
+    /// The first in order of score and number of the items that are due, whose cells are free, and that the
+    /// throttle lets start. Parks each group before it that can't be open; without memory for this, one isn't
+    /// parked.
     pub fn settle_next<L: Ledger>(
         &mut self,
         t: u64,

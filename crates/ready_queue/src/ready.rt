@@ -1,8 +1,9 @@
-ghost use Rattle.std.specs.Prelude.{◌≡◌, ◌⊎◌, ◌+◌, ◌≤◌, ℕ, List, length, Some, None, true, false, OnOk, OnErr, IfOk};
+ghost use Rattle.std.specs.Prelude.{◌≡◌, ◌⊎◌, ◌≤◌, ℕ, Some, None, true, false};
+ghost use Rattle.std.specs.Prelude.{OnOk, OnErr, IfOk};
 ghost use Rattle.kinds.specs.Cells.{last_moment};
-ghost use Rattle.kinds.specs.declared.store.Item.{Item};
 ghost use Rattle.ready_queue.specs.Held.{Group, name_at, holds, AreSame, Comes, Goes, ComesNamed};
-ghost use Rattle.ready_queue.specs.Held.{IsLeastHeld, AreOf, HasEach, IsParked, AreFewer, AreOneMore, AreClosed};
+ghost use Rattle.ready_queue.specs.Held.{IsLeastHeld, AreOf, AsksFew};
+ghost use Rattle.ready_queue.specs.Held.{IsParked, AreFewer, AreOneMore, AreClosed};
 ghost use Rattle.ready_queue.specs.Keys.{Changes};
 ghost use Rattle.ready_queue.specs.Opens.{HaveStarts};
 
@@ -29,7 +30,10 @@ impl Model for Ready {
 
     ghost Value = { Groups };
 
-    ghost view = { λ r. record { held = record { names = r.names.entries; keys = r.index.keys }; places = r.index.places } };
+    ghost view = { λ r. record {
+      held = record { names = r.names.entries; keys = r.index.keys };
+      places = r.index.places;
+    } };
 
     ghost invariant = { λ r. IsNamed r.names.entries r.index.keys r.next };
 }
@@ -144,7 +148,8 @@ impl Ready {
         self.index.open_groups()
     }
 
-    /// The least score and number for whose group the gate is open. Looks once at each group that isn't parked.
+    /// The least score and number for whose group the gate is open. Looks once at each group that isn't
+    /// parked.
     pub(crate) fn least_open<G: Gate, L: Ledger>(
         &self,
         items: &BTreeMap<u64, Item>,
@@ -157,7 +162,7 @@ impl Ready {
         requires moment { t ≤ last_moment }
         requires closed { AreClosed (G.is_open gate.now t) self.now }
         ensures least { IsLeastHeld (G.is_open gate.now t) (holds self.now.held) result }
-        ensures asked { (fs : List Item) → HasEach fs (holds self.now.held) → steps.new ≤ steps.old + length fs }
+        ensures asked { AsksFew (holds self.now.held) steps.old steps.new }
     {
         self.index.least_open(items, t, gate, steps)
     }
