@@ -1,5 +1,5 @@
 -- Time goes on: what is due happens, the least by moment and number first, each at its own moment.
-use Rattle.std.specs.Prelude.{ℕ, zero, suc, ◌+◌, ◌^◌, ◌==◌, Bool, true, false, not, ◌&&◌, ◌||◌, List, [], ◌∷◌, ◌++◌, map, filter, find, codes, Option, Some, None, nat_lt, nat_le, if◌then◌else◌}
+use Rattle.std.specs.Prelude.{ℕ, zero, suc, ◌^◌, ◌==◌, Bool, not, ◌&&◌, ◌||◌, List, [], ◌∷◌, ◌++◌, map, filter, codes, Option, Some, None, nat_lt, nat_le, if◌then◌else◌}
 use Rattle.kinds.specs.ErrorObject.{error_object}
 use Rattle.kinds.specs.Windows as windows
 use Rattle.kinds.specs.declared.store.Rule.{Rule}

@@ -1,12 +1,10 @@
 -- Where an event must have a value for a condition to be true of it. Of the conjuncts of a condition, from left to
 -- right, the first that compares a member of the fresh event with what the first event alone tells gives the bucket.
-use Rattle.std.specs.Prelude.{ℕ, Bool, true, false, not, ◌&&◌, ◌||◌, List, [], ◌∷◌, ◌++◌, Option, Some, None, Result, Ok, Err}
+use Rattle.std.specs.Prelude.{ℕ, Bool, true, false, ◌||◌, List, [], ◌∷◌, ◌++◌, Option, Some, None, Result, Ok, Err}
 use Rattle.expr.specs.Tree as tree
 use Rattle.expr.specs.Tree.{Tree, Trees}
 use Rattle.expr.specs.Reading.{tree_of_text}
-use Rattle.expr.specs.declared.term.Source.{Source}
 use Rattle.expr.specs.declared.term.Source.TheVariants as source
-use Rattle.expr.specs.declared.term.Operator.{Operator}
 use Rattle.expr.specs.declared.term.Operator.TheVariants as operator
 use Rattle.cel_eval.specs.Cells.{value_text}
 use Rattle.cel_eval.specs.Data.{over, seen_outcome}

@@ -1,6 +1,5 @@
 -- How a run ends: what of it goes, what its parent records, and the event of a failed run.
-use Rattle.std.specs.Prelude.{ℕ, ◌+◌, ◌==◌, Bool, true, false, not, ◌&&◌, List, [], ◌∷◌, ◌++◌, filter, find, take, length, codes, Option, Some, None, bytes_eq}
-use Rattle.std.specs.List.{list_any}
+use Rattle.std.specs.Prelude.{ℕ, ◌==◌, Bool, true, false, not, ◌&&◌, List, [], ◌∷◌, ◌++◌, filter, take, length, codes, Option, Some, None, bytes_eq}
 use Rattle.kinds.specs.ErrorObject.{error_object}
 use Rattle.kinds.specs.Queue.{without_run}
 use Rattle.kinds.specs.RunSteps.{is_recorded}

@@ -20,7 +20,7 @@ use Rattle.functions.specs.declared.entry.FunctionEntry.{FunctionEntry}
 use Rattle.run_model.specs.Expressions.{holds_over, key_value, truth_in}
 use Rattle.run_model.specs.Making.{make_run}
 use Rattle.run_model.specs.Recording.{Discovery, data_result, discovered, record_result}
-use Rattle.run_model.specs.State.{State, EventText, Waiting}
+use Rattle.run_model.specs.State.{State, Waiting}
 
 -- ## A number for an event
 

@@ -1,6 +1,5 @@
 -- What expressions of functions, waits and rules are worth over the texts of events.
-use Rattle.std.specs.Prelude.{ℕ, ℤ, pos, negsuc, neg_ℤ, unsigned_abs, ◌+◌, ◌*◌, ◌/◌, ◌%◌, ◌^◌, ◌==◌, Bool, true, false, ◌&&◌, List, [], ◌∷◌, find, min, Option, Some, None, Result, Ok, Err, if◌then◌else◌}
-use Rattle.std.specs.Option.{option_map}
+use Rattle.std.specs.Prelude.{ℕ, ℤ, pos, negsuc, neg_ℤ, unsigned_abs, ◌+◌, ◌/◌, ◌%◌, ◌^◌, ◌==◌, Bool, true, false, List, [], min, Option, Some, None, Result, Ok, Err, if◌then◌else◌}
 use Rattle.cel_eval.specs.Cells.{cell_text}
 use Rattle.cel_eval.specs.Data.{over}
 use Rattle.cel_eval.specs.Table.{value_of}

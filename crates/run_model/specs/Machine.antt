@@ -1,5 +1,5 @@
 -- The documented machine: what an input does to the state, what is said, and which inputs are turned away.
-use Rattle.std.specs.Prelude.{ℕ, ◌≡◌, ◌+◌, ◌^◌, ◌==◌, Bool, true, false, not, ◌||◌, List, [], ◌∷◌, ◌++◌, map, filter, Option, Some, None, codes, length, nat_le, nat_lt, if◌then◌else◌}
+use Rattle.std.specs.Prelude.{ℕ, ◌≡◌, ◌+◌, ◌^◌, ◌==◌, Bool, true, false, not, List, [], ◌∷◌, ◌++◌, map, filter, Option, Some, None, codes, length, nat_le, nat_lt, if◌then◌else◌}
 use Rattle.std.specs.List.{list_any}
 use Rattle.kinds.specs.Answer.{ids_answer}
 use Rattle.functions.specs.Functions.{current_after, is_modified, new_in, registered, stays, version_of}
@@ -14,7 +14,6 @@ use Rattle.kinds.specs.declared.out.Out.TheVariants.{Answer, Hang}
 use Rattle.kinds.specs.declared.refusal.Refusal.{Refusal}
 use Rattle.kinds.specs.declared.refusal.Refusal.TheVariants.{NumbersSpent, KeptFull, RunsFull, FunctionsFull, UnknownCall, UnknownRun, RunEnded}
 use Rattle.lists.specs.Entries.{insert_by}
-use Rattle.kinds.specs.Queue.{insert_item}
 use Rattle.kinds.specs.RunSteps.{is_recorded}
 use Rattle.kinds.specs.declared.store.Item.{Item}
 use Rattle.run_model.specs.Advance.{Advanced, advance}

@@ -1,5 +1,5 @@
 -- Making a run: its cells, its rules, and its first item.
-use Rattle.std.specs.Prelude.{ℕ, ℤ, pos, ◌*ℤ◌, ◌-ℤ◌, ◌+◌, ◌==◌, Bool, true, false, not, ◌&&◌, ◌||◌, List, [], ◌∷◌, ◌++◌, find, min, codes, Option, Some, None, if◌then◌else◌, bytes_eq}
+use Rattle.std.specs.Prelude.{ℕ, ℤ, pos, ◌*ℤ◌, ◌-ℤ◌, ◌+◌, ◌==◌, Bool, true, false, not, ◌&&◌, ◌||◌, List, [], ◌∷◌, ◌++◌, min, codes, Option, Some, None, if◌then◌else◌, bytes_eq}
 use Rattle.std.specs.List.{list_any}
 use Rattle.std.specs.Option.{option_map}
 use Rattle.kinds.specs.Cells.{has_cell, is_cell}
@@ -77,8 +77,14 @@ unless false x = x
 -- an item that is made now
 abbrev pub new_item : Run → List ℕ → State → Item
 new_item r target s = record {
-  number = s.entries + 1; run = r.number; target = target; attempt = 0; due = s.moment;
-  score = score_of r; cells = r.cells; start = unless r.started r.start;
+  number = s.entries + 1;
+  run = r.number;
+  target = target;
+  attempt = 0;
+  due = s.moment;
+  score = score_of r;
+  cells = r.cells;
+  start = unless r.started r.start;
 }
 
 abbrev pub queue : Item → State → State
@@ -108,8 +114,13 @@ discover s = discover_all s.live s
 
 abbrev pub rule_of : Run → ℕ → List ℕ → State → CancelEntry → Rule
 rule_of r first event s c = record {
-  number = s.entries + 1; run = r.number; first = first; name = c.event; cond = c.cond;
-  due = option_map (λ timeout. s.moment + timeout) c.timeout; bucket = bucket_of c.cond event;
+  number = s.entries + 1;
+  run = r.number;
+  first = first;
+  name = c.event;
+  cond = c.cond;
+  due = option_map (λ timeout. s.moment + timeout) c.timeout;
+  bucket = bucket_of c.cond event;
 }
 
 abbrev pub add_rule : Run → ℕ → List ℕ → CancelEntry → State → State
@@ -124,10 +135,18 @@ add_rules r first event (c ∷ cs) s = add_rules r first event cs (add_rule r fi
 -- a run of a function with events, the first of which has this text
 abbrev pub run_with : FunctionEntry → List ℕ → List ℕ → Option Parent → State → Run
 run_with f events event parent s = record {
-  number = s.runs + 1; moment = s.moment; version = f.version; events = events;
-  cells = cells_of f.function event; start = start_of f.function event;
+  number = s.runs + 1;
+  moment = s.moment;
+  version = f.version;
+  events = events;
+  cells = cells_of f.function event;
+  start = start_of f.function event;
   shift = priority_shift f.function.priority event;
-  wanted = true; planned = false; started = false; parent = parent; steps = no_steps;
+  wanted = true;
+  planned = false;
+  started = false;
+  parent = parent;
+  steps = no_steps;
 }
 
 -- its rules take numbers, and then its first item

@@ -1,5 +1,5 @@
 -- When the machine has something to do next, and what can be looked at.
-use Rattle.std.specs.Prelude.{ℕ, ◌==◌, Bool, true, false, not, ◌&&◌, List, [], ◌∷◌, ◌++◌, map, filter, find, Option, Some, None}
+use Rattle.std.specs.Prelude.{ℕ, ◌==◌, true, false, List, find, Option, Some, None}
 use Rattle.std.specs.Option.{option_map, option_and_then}
 use Rattle.kinds.specs.Queue.{next_item, sooner}
 use Rattle.kinds.specs.RunSteps.{result_of}
@@ -7,7 +7,7 @@ use Rattle.kinds.specs.declared.store.RunStatus.{RunStatus}
 use Rattle.kinds.specs.declared.store.RunStatus.TheVariants.{Queued, Running}
 use Rattle.run_model.specs.Advance.{Next, least, timed}
 use Rattle.run_model.specs.Ends.{function_id}
-use Rattle.run_model.specs.State.{State, Run, EndedRun, is_in, issue_entries, last_ended, live_run}
+use Rattle.run_model.specs.State.{State, Run, EndedRun, issue_entries, last_ended, live_run}
 
 -- ## The next moment
 

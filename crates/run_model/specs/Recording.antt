@@ -1,5 +1,5 @@
 -- What a run records.
-use Rattle.std.specs.Prelude.{ℕ, ◌+◌, ◌==◌, Bool, true, false, not, List, [], ◌∷◌, ◌++◌, map, filter, length, codes, Option, Some, None, nat_lt, if◌then◌else◌}
+use Rattle.std.specs.Prelude.{ℕ, ◌+◌, ◌==◌, true, not, List, ◌++◌, map, filter, length, codes, nat_lt, if◌then◌else◌}
 use Rattle.kinds.specs.ErrorObject.{error_object}
 use Rattle.kinds.specs.RunSteps.{record_step}
 use Rattle.kinds.specs.declared.store.Item.{Item}

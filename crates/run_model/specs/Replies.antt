@@ -1,5 +1,5 @@
 -- What a reply to a call does, and a call that fails.
-use Rattle.std.specs.Prelude.{ℕ, ◌+◌, ◌==◌, Bool, true, false, not, ◌&&◌, ◌||◌, List, [], ◌∷◌, ◌++◌, filter, find, length, codes, min, max, Option, Some, None, Result, Ok, Err, nat_lt, nat_le, if◌then◌else◌, bytes_eq}
+use Rattle.std.specs.Prelude.{ℕ, ◌+◌, ◌==◌, Bool, true, false, not, ◌&&◌, ◌||◌, List, [], ◌∷◌, ◌++◌, filter, find, length, codes, min, max, Option, Some, None, Result, Ok, Err, nat_lt, nat_le, bytes_eq}
 use Rattle.std.specs.List.{list_any}
 use Rattle.std.specs.Option.{option_map, option_and_then}
 use Rattle.json_text.specs.Grammar.{Json, spelling, object}
@@ -11,7 +11,6 @@ use Rattle.kinds.specs.Moments.{last_moment}
 use Rattle.kinds.specs.RunSteps.{RunSteps, Noting, adds, known, full, keep_step, note_plan, note_pending, is_recorded, is_pending, pend_step, plan_step}
 use Rattle.kinds.specs.declared.event.Event.{Event}
 use Rattle.kinds.specs.declared.event.EventIn.{EventIn}
-use Rattle.kinds.specs.declared.function.Function.{Function}
 use Rattle.kinds.specs.declared.reply.After.{After}
 use Rattle.kinds.specs.declared.reply.After.TheVariants as after
 use Rattle.kinds.specs.declared.reply.Op.{Op}
@@ -30,9 +29,9 @@ use Rattle.sdk_reply.specs.Outcome.{outcome_of}
 use Rattle.run_model.specs.Buckets.{bucket_of}
 use Rattle.run_model.specs.Ends.{complete_run, fail_run, first_text, own_event}
 use Rattle.run_model.specs.Events.{add_event, event_with}
-use Rattle.run_model.specs.Making.{discover, first_of, has_discovery, is_item_of, make_run, queue, queue_new, step_target}
+use Rattle.run_model.specs.Making.{discover, first_of, make_run, queue, queue_new, step_target}
 use Rattle.run_model.specs.Recording.{change_run, data_result, error_result, record_result}
-use Rattle.run_model.specs.State.{State, Run, Issue, Sleep, Waiting, Invocation, function_at, live_run, open_issue}
+use Rattle.run_model.specs.State.{State, Run, Issue, Waiting, function_at, live_run, open_issue}
 
 -- ## A call that ends
 
@@ -62,8 +61,9 @@ want r = record r { wanted = true }
 abbrev pub retry_run : Run → Item → After → List ℕ → State → State
 retry_run r i after error s =
     elim (is_recorded i.target r.steps) as (λ _. State) [
-      true ↦ change_run r.number want s
-    | false ↦ elim (nat_lt i.attempt (retries_of r s)) as (λ _. State) [ true ↦ queue (again i after s) s | false ↦ fail_run r error s ] ]
+      | true ↦ change_run r.number want s
+      | false ↦ elim (nat_lt i.attempt (retries_of r s)) as (λ _. State) [ true ↦ queue (again i after s) s | false ↦ fail_run r error s ]
+    ]
 
 abbrev pub retry_found : Option Run → Item → After → List ℕ → State → State
 retry_found None i after error s = s
@@ -142,15 +142,21 @@ add_sleep r name t s = record (pend pending.Sleep name r s) {
 abbrev pub wait_with : Run → List ℕ → List ℕ → Time → Option (List ℕ) → State → Waiting
 wait_with r name event t cond s = record {
   wait = record {
-    number = s.entries + 1; run = r.number; first = first_of r.events; name = event; cond = cond;
-    due = due_of t s.moment; bucket = bucket_of cond (first_text r s);
+    number = s.entries + 1;
+    run = r.number;
+    first = first_of r.events;
+    name = event;
+    cond = cond;
+    due = due_of t s.moment;
+    bucket = bucket_of cond (first_text r s);
   };
   hash = name;
 }
 
 abbrev pub add_wait : Run → List ℕ → List ℕ → Time → Option (List ℕ) → State → State
 add_wait r name event t cond s = record (pend pending.Wait name r s) {
-  entries = s.entries + 1; waits = s.waits ++ wait_with r name event t cond s ∷ [];
+  entries = s.entries + 1;
+  waits = s.waits ++ wait_with r name event t cond s ∷ [];
 }
 
 -- ## Invocations
@@ -189,7 +195,11 @@ abbrev pub add_invocation : Run → List ℕ → ℕ → Option Time → State �
 add_invocation r name child t s = record s {
   entries = s.entries + 1;
   invocations = s.invocations ++ (record {
-    number = s.entries + 1; run = r.number; hash = name; child = child; due = option_map (λ t. due_of t s.moment) t;
+    number = s.entries + 1;
+    run = r.number;
+    hash = name;
+    child = child;
+    due = option_map (λ t. due_of t s.moment) t;
   }) ∷ [];
 }
 
@@ -259,8 +269,9 @@ after_found (Some r) i after s = after_run r i after s
 abbrev pub finished : Item → After → Taking → State
 finished i after taking =
     elim taking.again as (λ _. State) [
-      true ↦ retry i after [] taking.state
-    | false ↦ after_found (live_run i.run taking.state) i after taking.state ]
+      | true ↦ retry i after [] taking.state
+      | false ↦ after_found (live_run i.run taking.state) i after taking.state
+    ]
 
 -- ## Outcomes
 
@@ -276,8 +287,9 @@ lacks_target i ops = not (bytes_eq i.target step_target) && not (list_any (is_ou
 abbrev pub take_ops : Run → Item → List Op → Bool → After → State → State
 take_ops r i ops no_retry after s =
     elim (lacks_target i ops) as (λ _. State) [
-      true ↦ retry_run r i after (error_object (codes "target missing")) s
-    | false ↦ finished i after (take_operations i no_retry ops (record { state = s; again = false; stopped = false })) ]
+      | true ↦ retry_run r i after (error_object (codes "target missing")) s
+      | false ↦ finished i after (take_operations i no_retry ops (record { state = s; again = false; stopped = false }))
+    ]
 
 abbrev pub take_outcome : Run → Item → Outcome → State → State
 take_outcome r i (outcome.Ended output) s = complete_run r output s

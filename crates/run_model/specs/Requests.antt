@@ -8,7 +8,7 @@ use Rattle.kinds.specs.declared.event.EventIn.{EventIn}
 use Rattle.run_model.specs.Ends.{cancel_run}
 use Rattle.run_model.specs.Events.{add_event, event_with, follow}
 use Rattle.run_model.specs.Expressions.{truth_in}
-use Rattle.run_model.specs.Recording.{Discovery, at_once}
+use Rattle.run_model.specs.Recording.{at_once}
 use Rattle.run_model.specs.State.{State, Run, live_run}
 
 -- ## Repeated events

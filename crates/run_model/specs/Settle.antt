@@ -1,5 +1,5 @@
 -- Calls are made while an item may be issued, the least by score and number first.
-use Rattle.std.specs.Prelude.{ℕ, zero, suc, ◌+◌, Bool, true, false, not, ◌&&◌, List, [], ◌∷◌, ◌++◌, map, find, length, Option, Some, None, bytes_eq}
+use Rattle.std.specs.Prelude.{ℕ, zero, suc, ◌+◌, true, not, ◌&&◌, List, [], ◌∷◌, ◌++◌, map, find, length, Option, Some, None, bytes_eq}
 use Rattle.kinds.specs.Cells.{after_start}
 use Rattle.kinds.specs.Queue.{admits, has_number, least_admissible, without_number}
 use Rattle.kinds.specs.declared.cell.Cell.{Cell}
@@ -51,7 +51,8 @@ issued i s = record { call = s.calls + 1; item = record i { start = None }; limi
 
 abbrev pub issue : Item → State → State
 issue i s = change_run i.run (called i) (record s {
-  calls = s.calls + 1; entries = s.entries + 1;
+  calls = s.calls + 1;
+  entries = s.entries + 1;
   items = without_number i.number s.items;
   issues = s.issues ++ issued i s ∷ [];
   starts = started_at i.start s.moment s.starts;

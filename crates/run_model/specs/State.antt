@@ -1,5 +1,5 @@
 -- The state of the documented machine with runs: plain lists in order of making, and the counts of what was named.
-use Rattle.std.specs.Prelude.{ℕ, ℤ, ◌+◌, ◌-◌, ◌==◌, Bool, true, false, ◌||◌, List, [], ◌∷◌, ◌++◌, map, filter, find, length, take, drop, min, max, Option, Some, None}
+use Rattle.std.specs.Prelude.{ℕ, ℤ, ◌+◌, ◌-◌, ◌==◌, Bool, ◌||◌, List, [], ◌∷◌, ◌++◌, map, filter, find, length, take, drop, min, max, Option}
 use Rattle.std.specs.List.{list_any}
 use Rattle.kinds.specs.Moments.{last_moment}
 use Rattle.kinds.specs.RunSteps.{RunSteps}
@@ -126,9 +126,29 @@ pub record State : Type 0 where
 -- the state before the first input
 abbrev pub empty : Limits → State
 empty limits = record {
-  limits = limits; moment = 0; inputs = 0; events = 0; runs = 0; calls = 0; entries = 0; versions = 0;
-  functions = []; retired = []; seen = []; texts = []; live = []; closing = []; items = []; issues = [];
-  sleeps = []; waits = []; invocations = []; rules = []; windows = []; starts = []; ended = [];
+  limits = limits;
+  moment = 0;
+  inputs = 0;
+  events = 0;
+  runs = 0;
+  calls = 0;
+  entries = 0;
+  versions = 0;
+  functions = [];
+  retired = [];
+  seen = [];
+  texts = [];
+  live = [];
+  closing = [];
+  items = [];
+  issues = [];
+  sleeps = [];
+  waits = [];
+  invocations = [];
+  rules = [];
+  windows = [];
+  starts = [];
+  ended = [];
 }
 
 -- the moment of an input with this clock reading
