@@ -1,5 +1,5 @@
--- The definition on examples: inputs, each with what is said for it in brief; the steps that calls send; and what
--- is refused.
+-- The definition on examples: inputs, each with what is said for it in brief; the steps that calls send; and
+-- what is refused.
 use Rattle.std.specs.List.{join_with_byte}
 use Rattle.std.proofs.Common.{◌≡◌, ℕ, List, [], ◌∷◌, ◌++◌, map, codes, Option, Some, None, refl}
 use Rattle.std.specs.Prelude.{⊤}

@@ -53,13 +53,13 @@ pub record Next : Type 0 where
 abbrev pub comes_before : Next → Next → Bool
 comes_before a b = nat_lt a.due b.due || ((a.due == b.due) && nat_lt (number_of a.entry) (number_of b.entry))
 
-abbrev pub sooner : Next → Option Next → Option Next
-sooner a None = Some a
-sooner a (Some b) = if comes_before b a then Some b else Some a
+abbrev pub earlier : Next → Option Next → Option Next
+earlier a None = Some a
+earlier a (Some b) = if comes_before b a then Some b else Some a
 
 abbrev pub with_due : Timed → Option ℕ → Option Next → Option Next
 with_due e None next = next
-with_due e (Some due) next = sooner (record { due = due; entry = e }) next
+with_due e (Some due) next = earlier (record { due = due; entry = e }) next
 
 unfoldable pub least : List Timed → Option Next
 least [] = None
@@ -71,7 +71,8 @@ abbrev pub without_sleep : ℕ → State → State
 without_sleep number s = record s { sleeps = filter (λ (e : Sleep). not (number == e.number)) s.sleeps }
 
 abbrev pub without_invocation : ℕ → State → State
-without_invocation number s = record s { invocations = filter (λ (e : Invocation). not (number == e.number)) s.invocations }
+without_invocation number s =
+    record s { invocations = filter (λ (e : Invocation). not (number == e.number)) s.invocations }
 
 abbrev pub without_rule : ℕ → State → State
 without_rule number s = record s { rules = filter (λ (e : Rule). not (number == e.number)) s.rules }
@@ -109,7 +110,10 @@ pub record Advanced : Type 0 where
   pub hangs : List ℕ
 
 abbrev pub fired : Next → Advanced → Advanced
-fired next a = record { state = fire next.entry (record a.state { moment = next.due }); hangs = a.hangs ++ hung next.entry }
+fired next a = record {
+  state = fire next.entry (record a.state { moment = next.due });
+  hangs = a.hangs ++ hung next.entry;
+}
 
 -- the next, where it is due by a moment
 abbrev pub within : ℕ → Option Next → Option Next
@@ -125,7 +129,8 @@ most = 2 ^ 64
 
 unfoldable pub fire_by : ℕ → ℕ → Advanced → Advanced
 fire_by zero t a = a
-fire_by (suc n) t a = elim (due_by t a.state) as (λ _. Advanced) [ None ↦ a | Some next ↦ fire_by n t (fired next a) ]
+fire_by (suc n) t a =
+    elim (due_by t a.state) as (λ _. Advanced) [ None ↦ a | Some next ↦ fire_by n t (fired next a) ]
 
 abbrev pub arrived : ℕ → Advanced → Advanced
 arrived t a = record a { state = at_moment t a.state }

@@ -1,5 +1,6 @@
--- Where an event must have a value for a condition to be true of it. Of the conjuncts of a condition, from left to
--- right, the first that compares a member of the fresh event with what the first event alone tells gives the bucket.
+-- Where an event must have a value for a condition to be true of it. Of the conjuncts of a condition, from
+-- left to right, the first that compares a member of the fresh event with what the first event alone tells
+-- gives the bucket.
 use Rattle.std.specs.Prelude.{ℕ, Bool, true, false, ◌||◌, List, [], ◌∷◌, ◌++◌, Option, Some, None, Result, Ok, Err}
 use Rattle.expr.specs.Tree as tree
 use Rattle.expr.specs.Tree.{Tree, Trees}
@@ -67,7 +68,8 @@ pub record Compared : Type 0 where
 abbrev pub against : Option (List (List ℕ)) → Tree → Option Compared
 against None t = None
 against (Some []) t = None
-against (Some (name ∷ names)) t = elim (names_fresh t) [ true ↦ None | false ↦ Some (record { path = name ∷ names; to = t }) ]
+against (Some (name ∷ names)) t =
+    elim (names_fresh t) [ true ↦ None | false ↦ Some (record { path = name ∷ names; to = t }) ]
 
 abbrev pub or_else : Option Compared → Option Compared → Option Compared
 or_else None other = other

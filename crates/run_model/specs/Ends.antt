@@ -19,8 +19,8 @@ use Rattle.run_model.specs.State.{State, Run, EndedRun, Invocation, Sleep, Waiti
 
 -- ## What goes
 
-abbrev pub number_of : Run → ℕ
-number_of r = r.number
+abbrev pub run_number : Run → ℕ
+run_number r = r.number
 
 abbrev pub id_at : Option FunctionEntry → List ℕ
 id_at None = []
@@ -31,13 +31,19 @@ abbrev pub function_id : Run → State → List ℕ
 function_id r s = id_at (function_at r.version s)
 
 abbrev pub ended_run : Run → RunStatus → State → EndedRun
-ended_run r status s = record { run = r.number; moment = r.moment; function = function_id r s; status = status; events = r.events }
+ended_run r status s = record {
+  run = r.number;
+  moment = r.moment;
+  function = function_id r s;
+  status = status;
+  events = r.events;
+}
 
 -- A run ends: its items, sleeps, waits, invocations and rules go. Its open calls stay.
 abbrev pub end_run : Run → RunStatus → State → State
 end_run r status s = record s {
   live = filter (λ (other : Run). not (r.number == other.number)) s.live;
-  closing = insert_by number_of r s.closing;
+  closing = insert_by run_number r s.closing;
   items = without_run r.number s.items;
   sleeps = filter (λ (e : Sleep). not (r.number == e.run)) s.sleeps;
   waits = filter (λ (e : Waiting). not (r.number == e.wait.run)) s.waits;
@@ -51,13 +57,14 @@ end_run r status s = record s {
 abbrev pub is_invocation_of : Parent → Invocation → Bool
 is_invocation_of p i = (p.run == i.run) && bytes_eq p.hash i.hash
 
-abbrev pub without_invocation : Parent → State → State
-without_invocation p s = record s { invocations = filter (λ i. not (is_invocation_of p i)) s.invocations }
+abbrev pub without_invocation_of : Parent → State → State
+without_invocation_of p s = record s { invocations = filter (λ i. not (is_invocation_of p i)) s.invocations }
 
 -- the step is recorded already, where the invocation had an end of its own
 abbrev pub record_at_parent : Discovery → Parent → List ℕ → Bool → State → State
 record_at_parent discovery p result true s = s
-record_at_parent discovery p result false s = discovered discovery (record_result p.run p.hash result (without_invocation p s))
+record_at_parent discovery p result false s =
+    discovered discovery (record_result p.run p.hash result (without_invocation_of p s))
 
 abbrev pub tell : Discovery → Parent → List ℕ → Option Run → State → State
 tell discovery p result None s = s
@@ -81,12 +88,13 @@ abbrev pub is_of_failure : List ℕ → Bool
 is_of_failure event = bytes_eq failed_begun (take (length failed_begun) event)
 
 abbrev pub own_event : List ℕ → List ℕ → Option (List ℕ) → Option (List ℕ) → EventIn
-own_event name content user v = record { name = name; content = content; id = None; ts = None; user = user; v = v }
+own_event name content user v =
+    record { name = name; content = content; id = None; ts = None; user = user; v = v }
 
 abbrev pub failed_content : List ℕ → List ℕ → List ℕ → List ℕ → List ℕ
 failed_content function run error event =
-    codes "{\"function_id\":\"" ++ function ++ codes "\",\"run_id\":\"" ++ run ++ codes "\",\"error\":" ++ error
-    ++ codes ",\"event\":" ++ event ++ codes "}"
+    codes "{\"function_id\":\"" ++ function ++ codes "\",\"run_id\":\"" ++ run ++ codes "\",\"error\":"
+    ++ error ++ codes ",\"event\":" ++ event ++ codes "}"
 
 -- the text of the run's first event
 abbrev pub first_text : Run → State → List ℕ
@@ -94,7 +102,8 @@ first_text r s = text_or_none (text_of (first_of r.events) s)
 
 abbrev pub failed_event : Run → List ℕ → State → EventIn
 failed_event r error s =
-    own_event failed_name (failed_content (function_id r s) (run_text r.moment r.number) error (first_text r s)) None None
+    own_event failed_name
+    (failed_content (function_id r s) (run_text r.moment r.number) error (first_text r s)) None None
 
 abbrev pub raise : EventIn → State → State
 raise event s = follow at_the_end (event_with event s) (add_event (event_with event s) s)
@@ -102,7 +111,8 @@ raise event s = follow at_the_end (event_with event s) (add_event (event_with ev
 -- none for a run of such an event
 abbrev pub raise_failed : Run → List ℕ → State → State
 raise_failed r error s =
-    elim (is_of_failure (first_text r s)) as (λ _. State) [ true ↦ s | false ↦ raise (failed_event r error s) s ]
+    elim (is_of_failure (first_text r s)) as (λ _. State)
+    [ true ↦ s | false ↦ raise (failed_event r error s) s ]
 
 -- ## The ways to end
 
@@ -112,7 +122,8 @@ complete_run r output s = tell_parent at_the_end r.parent (data_result output) (
 
 -- within a reply or a failure
 unfoldable pub fail_run : Run → List ℕ → State → State
-fail_run r error s = raise_failed r error (tell_parent at_the_end r.parent (error_result error) (end_run r Failed s))
+fail_run r error s =
+    raise_failed r error (tell_parent at_the_end r.parent (error_result error) (end_run r Failed s))
 
 abbrev pub cancelled_result : List ℕ
 cancelled_result = error_result (error_object (codes "invoked run cancelled"))

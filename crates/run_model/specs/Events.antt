@@ -25,10 +25,14 @@ use Rattle.run_model.specs.State.{State, Waiting}
 -- ## A number for an event
 
 abbrev pub event_with : EventIn → State → Event
-event_with event s = record { number = s.events + 1; name = event.name; text = event_text (s.events + 1) s.moment event }
+event_with event s =
+    record { number = s.events + 1; name = event.name; text = event_text (s.events + 1) s.moment event }
 
 abbrev pub add_event : Event → State → State
-add_event event s = record s { events = event.number; texts = s.texts ++ (record { number = event.number; text = event.text }) ∷ [] }
+add_event event s = record s {
+  events = event.number;
+  texts = s.texts ++ (record { number = event.number; text = event.text }) ∷ [];
+}
 
 -- ## Waits
 
@@ -58,7 +62,8 @@ wake_all discovery result (n ∷ ns) s = wake_all discovery result ns (wake disc
 
 -- All waits that the event meets are over, in order of number.
 abbrev pub wake_by : Discovery → Event → State → State
-wake_by discovery event s = wake_all discovery (data_result event.text) (woken (truth_in s) event (map wait_of s.waits)) s
+wake_by discovery event s =
+    wake_all discovery (data_result event.text) (woken (truth_in s) event (map wait_of s.waits)) s
 
 -- ## Windows
 
@@ -77,8 +82,10 @@ with_window r before w s = record s {
 
 -- A full window makes its run at once.
 abbrev pub in_window : FunctionEntry → WindowRule → Option Window → Window → State → State
-in_window f r before w s = elim (is_full r w) as (λ _. State)
-    [ true ↦ make_run f (windows.events_of w) None (with_window r before w s) | false ↦ with_window r before w s ]
+in_window f r before w s = elim (is_full r w) as (λ _. State) [
+  | true ↦ make_run f (windows.events_of w) None (with_window r before w s)
+  | false ↦ with_window r before w s
+]
 
 abbrev pub offer_beside : FunctionEntry → WindowRule → List ℕ → Event → Option Window → State → State
 offer_beside f r value event before s =
@@ -97,8 +104,8 @@ window_rule (Some d) batch = Some (rule.Debounce d)
 window_rule None (Some b) = Some (rule.Batch b)
 window_rule None None = None
 
-abbrev pub rule_of : Function → Option WindowRule
-rule_of f = window_rule f.debounce f.batch
+abbrev pub window_rule_of : Function → Option WindowRule
+window_rule_of f = window_rule f.debounce f.batch
 
 -- ## Triggers
 
@@ -113,7 +120,9 @@ offer_to f None event s = make_run f (event.number ∷ []) None s
 offer_to f (Some r) event s = offer_by f r (key_value (key_of r) event.text) event s
 
 abbrev pub offer : FunctionEntry → Event → State → State
-offer f event s = elim (is_triggered event f) as (λ _. State) [ true ↦ offer_to f (rule_of f.function) event s | false ↦ s ]
+offer f event s =
+    elim (is_triggered event f) as (λ _. State)
+    [ true ↦ offer_to f (window_rule_of f.function) event s | false ↦ s ]
 
 abbrev pub offer_to_all : List FunctionEntry → Event → State → State
 offer_to_all [] event s = s

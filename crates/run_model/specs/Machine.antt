@@ -21,7 +21,7 @@ use Rattle.run_model.specs.Ends.{cancel_run}
 use Rattle.run_model.specs.Making.{discover, queue}
 use Rattle.run_model.specs.Recording.{at_once, change_run}
 use Rattle.run_model.specs.Replies.{on_call_failed, on_reply, want}
-use Rattle.run_model.specs.Requests.{Answering, on_events}
+use Rattle.run_model.specs.Requests.{Answering, cancel_found, on_events}
 use Rattle.run_model.specs.Settle.{Settled, settle}
 use Rattle.run_model.specs.State.{State, Run, Issue, EndedRun, empty, greatest, kept, last_ended, live, live_run, moment_at, open_issue, tidied}
 
@@ -46,7 +46,8 @@ boolean_text false = codes "false"
 
 -- the answer to a registration: whether the list of current functions is another than before
 abbrev pub registered_answer : Bool → Out
-registered_answer modified = Answer 200 (codes "{\"ok\":true,\"modified\":" ++ boolean_text modified ++ codes "}")
+registered_answer modified =
+    Answer 200 (codes "{\"ok\":true,\"modified\":" ++ boolean_text modified ++ codes "}")
 
 abbrev pub insert_all : List FunctionEntry → List FunctionEntry → List FunctionEntry
 insert_all [] entries = entries
@@ -67,10 +68,6 @@ abbrev pub on_register : App → State → Stepped
 on_register app s = record { state = with_functions app s; outs = registered_answer (is_changed app s) ∷ [] }
 
 -- ## Cancellations
-
-abbrev pub cancel_found : Option Run → State → State
-cancel_found None s = s
-cancel_found (Some r) s = cancel_run at_once r s
 
 -- a run that has ended by the advance of the same step is answered all the same
 abbrev pub on_cancel : ℕ → State → Stepped
@@ -135,7 +132,8 @@ refusal_of_events s = if nat_le s.limits.kept (kept s) then Some (KeptFull (kept
 -- more functions than the limit would be current
 abbrev pub refusal_of_registration : App → State → Option Refusal
 refusal_of_registration app s =
-    if nat_lt s.limits.functions (current_after app s.functions) then Some (FunctionsFull (current_after app s.functions)) else None
+    if nat_lt s.limits.functions (current_after app s.functions)
+    then Some (FunctionsFull (current_after app s.functions)) else None
 
 abbrev pub refusal_of_call : ℕ → Option Issue → Option Refusal
 refusal_of_call call None = Some (UnknownCall call)
@@ -159,7 +157,8 @@ refusal_by_kind s (Reopened at) = None
 
 -- why the state as it stands turns an input away, if it does
 abbrev pub refusal : State → Input → Option Refusal
-refusal s input = if nat_le spent (greatest s) then Some (NumbersSpent (greatest s)) else refusal_by_kind s input
+refusal s input =
+    if nat_le spent (greatest s) then Some (NumbersSpent (greatest s)) else refusal_by_kind s input
 
 abbrev pub Accepts : State → Input → Type 0
 Accepts s input = refusal s input ≡ None

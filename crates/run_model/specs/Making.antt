@@ -33,7 +33,8 @@ abbrev pub cell_of : List ℕ → List ℕ → Limit → Cell
 cell_of function event l = cell_with l.scope function l.place (key_value l.key event)
 
 abbrev pub lesser_at : CellLimit → CellLimit → CellLimit
-lesser_at l other = if is_cell l.cell other.cell then record other { limit = min l.limit other.limit } else other
+lesser_at l other =
+    if is_cell l.cell other.cell then record other { limit = min l.limit other.limit } else other
 
 abbrev pub lowered : CellLimit → List CellLimit → List CellLimit
 lowered l [] = []
@@ -46,7 +47,8 @@ with_limit ls l = if has_cell l.cell ls then lowered l ls else ls ++ l ∷ []
 abbrev pub cells_with : List ℕ → List ℕ → List CellLimit → List Limit → List CellLimit
 cells_with function event ls [] = ls
 cells_with function event ls (l ∷ rest) =
-    cells_with function event (with_limit ls (record { cell = cell_of function event l; limit = l.limit })) rest
+    cells_with function event
+    (with_limit ls (record { cell = cell_of function event l; limit = l.limit })) rest
 
 abbrev pub cells_of : Function → List ℕ → List CellLimit
 cells_of f event = cells_with f.id event [] f.limits
@@ -97,7 +99,9 @@ queue_new r target s = queue (new_item r target s) (record s { entries = s.entri
 
 -- an item that finds it out is queued, or its call is open
 abbrev pub has_discovery : State → ℕ → Bool
-has_discovery s run = list_any (is_item_of run step_target) s.items || list_any (λ (i : Issue). is_item_of run step_target i.item) s.issues
+has_discovery s run =
+    list_any (is_item_of run step_target) s.items
+    || list_any (λ (i : Issue). is_item_of run step_target i.item) s.issues
 
 abbrev pub discover_one : Run → State → State
 discover_one r s = if r.wanted && not (has_discovery s r.number) then queue_new r step_target s else s
@@ -112,8 +116,8 @@ discover s = discover_all s.live s
 
 -- ## Rules
 
-abbrev pub rule_of : Run → ℕ → List ℕ → State → CancelEntry → Rule
-rule_of r first event s c = record {
+abbrev pub new_rule : Run → ℕ → List ℕ → State → CancelEntry → Rule
+new_rule r first event s c = record {
   number = s.entries + 1;
   run = r.number;
   first = first;
@@ -124,7 +128,8 @@ rule_of r first event s c = record {
 }
 
 abbrev pub add_rule : Run → ℕ → List ℕ → CancelEntry → State → State
-add_rule r first event c s = record s { entries = s.entries + 1; rules = s.rules ++ rule_of r first event s c ∷ [] }
+add_rule r first event c s =
+    record s { entries = s.entries + 1; rules = s.rules ++ new_rule r first event s c ∷ [] }
 
 abbrev pub add_rules : Run → ℕ → List ℕ → List CancelEntry → State → State
 add_rules r first event [] s = s
@@ -152,7 +157,8 @@ run_with f events event parent s = record {
 -- its rules take numbers, and then its first item
 abbrev pub add_run : Run → ℕ → List ℕ → List CancelEntry → State → State
 add_run r first event cancels s =
-    queue_new r step_target (add_rules r first event cancels (record s { runs = s.runs + 1; live = s.live ++ r ∷ [] }))
+    queue_new r step_target
+    (add_rules r first event cancels (record s { runs = s.runs + 1; live = s.live ++ r ∷ [] }))
 
 abbrev pub first_of : List ℕ → ℕ
 first_of [] = 0

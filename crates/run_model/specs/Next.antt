@@ -11,14 +11,14 @@ use Rattle.run_model.specs.State.{State, Run, EndedRun, issue_entries, last_ende
 
 -- ## The next moment
 
-abbrev pub due_of : Option Next → Option ℕ
-due_of None = None
-due_of (Some next) = Some next.due
+abbrev pub due_next : Option Next → Option ℕ
+due_next None = None
+due_next (Some next) = Some next.due
 
--- the least of the dues of timed entries, the dues of items that are to come, and the moments at which throttles let
--- due items start whose cells are free
+-- the least of the dues of timed entries, the dues of items that are to come, and the moments at which
+-- throttles let due items start whose cells are free
 unfoldable pub next_moment : State → Option ℕ
-next_moment s = sooner (due_of (least (timed s))) (next_item (issue_entries s) s.starts s.moment s.items)
+next_moment s = sooner (due_next (least (timed s))) (next_item (issue_entries s) s.starts s.moment s.items)
 
 -- ## Views
 
@@ -34,10 +34,22 @@ abbrev pub status_of : Run → RunStatus
 status_of r = elim r.started as (λ _. RunStatus) [ true ↦ Running | false ↦ Queued ]
 
 abbrev pub live_view : State → Run → View
-live_view s r = record { number = r.number; moment = r.moment; function = function_id r s; status = status_of r; events = r.events }
+live_view s r = record {
+  number = r.number;
+  moment = r.moment;
+  function = function_id r s;
+  status = status_of r;
+  events = r.events;
+}
 
 abbrev pub ended_view : EndedRun → View
-ended_view e = record { number = e.run; moment = e.moment; function = e.function; status = e.status; events = e.events }
+ended_view e = record {
+  number = e.run;
+  moment = e.moment;
+  function = e.function;
+  status = e.status;
+  events = e.events;
+}
 
 abbrev pub view_ended : ℕ → State → Option View
 view_ended number s = option_map ended_view (find (λ (e : EndedRun). number == e.run) (last_ended s))

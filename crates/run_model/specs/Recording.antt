@@ -38,9 +38,11 @@ change_run number f s = record s { live = changed number f s.live }
 abbrev pub without_item : ℕ → List ℕ → List Item → List Item
 without_item run name items = filter (λ i. not (is_item_of run name i)) items
 
--- A step of a run that has not ended is recorded: it isn't called any more, and what comes next is to be found out.
+-- A step of a run that has not ended is recorded: it isn't called any more, and what comes next is to be
+-- found out.
 abbrev pub record_result : ℕ → List ℕ → List ℕ → State → State
-record_result run name result s = change_run run (record_in name result) (record s { items = without_item run name s.items })
+record_result run name result s =
+    change_run run (record_in name result) (record s { items = without_item run name s.items })
 
 -- ## When it is found out what comes next
 

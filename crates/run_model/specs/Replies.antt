@@ -31,7 +31,7 @@ use Rattle.run_model.specs.Ends.{complete_run, fail_run, first_text, own_event}
 use Rattle.run_model.specs.Events.{add_event, event_with}
 use Rattle.run_model.specs.Making.{discover, first_of, make_run, queue, queue_new, step_target}
 use Rattle.run_model.specs.Recording.{change_run, data_result, error_result, record_result}
-use Rattle.run_model.specs.State.{State, Run, Issue, Waiting, function_at, live_run, open_issue}
+use Rattle.run_model.specs.State.{State, Sleep, Run, Issue, Waiting, function_at, live_run, open_issue}
 
 -- ## A call that ends
 
@@ -51,18 +51,20 @@ retries_of r s = retries_at (function_at r.version s)
 
 -- the item as it is queued again
 abbrev pub again : Item → After → State → Item
-again i after s = record i { attempt = i.attempt + 1; due = s.moment + delay i.attempt after s.moment; start = None }
+again i after s =
+    record i { attempt = i.attempt + 1; due = s.moment + delay i.attempt after s.moment; start = None }
 
 abbrev pub want : Run → Run
 want r = record r { wanted = true }
 
--- The call of a recorded step isn't made again, and it is to be found out what comes next. Others are made again
--- while attempts are left, and then the run fails.
+-- The call of a recorded step isn't made again, and it is to be found out what comes next. Others are made
+-- again while attempts are left, and then the run fails.
 abbrev pub retry_run : Run → Item → After → List ℕ → State → State
 retry_run r i after error s =
     elim (is_recorded i.target r.steps) as (λ _. State) [
       | true ↦ change_run r.number want s
-      | false ↦ elim (nat_lt i.attempt (retries_of r s)) as (λ _. State) [ true ↦ queue (again i after s) s | false ↦ fail_run r error s ]
+      | false ↦ elim (nat_lt i.attempt (retries_of r s)) as (λ _. State)
+          [ true ↦ queue (again i after s) s | false ↦ fail_run r error s ]
     ]
 
 abbrev pub retry_found : Option Run → Item → After → List ℕ → State → State
@@ -81,12 +83,16 @@ pub record Taking : Type 0 where
   pub again : Bool
   pub stopped : Bool
 
+abbrev pub begun : State → Taking
+begun s = record { state = s; again = false; stopped = false }
+
 abbrev pub goes_on : Taking → State → Taking
 goes_on taking s = record taking { state = s }
 
 -- the run has no room for one step more, and fails
 abbrev pub stops : Run → Taking → Taking
-stops r taking = record taking { state = fail_run r (error_object (codes "too many steps")) taking.state; stopped = true }
+stops r taking =
+    record taking { state = fail_run r (error_object (codes "too many steps")) taking.state; stopped = true }
 
 -- what a new name makes, and nothing where it is known
 abbrev pub noted : Noting → Run → (State → State) → Taking → Taking
@@ -97,7 +103,8 @@ noted full r effect taking = stops r taking
 -- ## Results
 
 abbrev pub keep : Run → List ℕ → List ℕ → Taking → Taking
-keep r name result taking = noted (keep_step name result r.steps) r (record_result r.number name result) taking
+keep r name result taking =
+    noted (keep_step name result r.steps) r (record_result r.number name result) taking
 
 -- a result for the name would be new
 abbrev pub is_new_result : List ℕ → RunSteps → Bool
@@ -126,17 +133,20 @@ abbrev pub plan : Run → List ℕ → Taking → Taking
 plan r name taking = noted (note_plan name r.steps) r (plan_named r name) taking
 
 -- when something is due: not before the moment, and not after the last
-abbrev pub due_of : Time → ℕ → ℕ
-due_of (time.Span span) moment = moment + span
-due_of (time.At at) moment = max moment (min at last_moment)
+abbrev pub due_at : Time → ℕ → ℕ
+due_at (time.Span span) moment = moment + span
+due_at (time.At at) moment = max moment (min at last_moment)
 
 abbrev pub pend : Pending → List ℕ → Run → State → State
 pend kind name r s = change_run r.number (λ r. with_steps (pend_step name kind r.steps) r) s
 
+abbrev pub new_sleep : Run → List ℕ → Time → State → Sleep
+new_sleep r name t s = record { number = s.entries + 1; run = r.number; hash = name; due = due_at t s.moment }
+
 abbrev pub add_sleep : Run → List ℕ → Time → State → State
 add_sleep r name t s = record (pend pending.Sleep name r s) {
   entries = s.entries + 1;
-  sleeps = s.sleeps ++ (record { number = s.entries + 1; run = r.number; hash = name; due = due_of t s.moment }) ∷ [];
+  sleeps = s.sleeps ++ new_sleep r name t s ∷ [];
 }
 
 abbrev pub wait_with : Run → List ℕ → List ℕ → Time → Option (List ℕ) → State → Waiting
@@ -147,7 +157,7 @@ wait_with r name event t cond s = record {
     first = first_of r.events;
     name = event;
     cond = cond;
-    due = due_of t s.moment;
+    due = due_at t s.moment;
     bucket = bucket_of cond (first_text r s);
   };
   hash = name;
@@ -199,21 +209,23 @@ add_invocation r name child t s = record s {
     run = r.number;
     hash = name;
     child = child;
-    due = option_map (λ t. due_of t s.moment) t;
+    due = option_map (λ t. due_at t s.moment) t;
   }) ∷ [];
 }
 
 -- the event, which wakes and triggers nothing else, then the run, then the invocation
 abbrev pub invoke_with : FunctionEntry → Run → List ℕ → Event → Option Time → State → State
 invoke_with f r name event t s =
-    add_invocation r name (s.runs + 1) t (make_run f (event.number ∷ []) (Some (record { run = r.number; hash = name })) (add_event event s))
+    add_invocation r name (s.runs + 1) t
+    (make_run f (event.number ∷ []) (Some (record { run = r.number; hash = name })) (add_event event s))
 
 abbrev pub unknown_function : List ℕ
 unknown_function = error_result (error_object (codes "unknown function"))
 
 abbrev pub invoke_found : Option FunctionEntry → Run → List ℕ → Option (List ℕ) → Option Time → State → State
 invoke_found None r name payload t s = record_result r.number name unknown_function s
-invoke_found (Some f) r name payload t s = invoke_with f r name (event_with (invoked_event payload) s) t (pend pending.Invocation name r s)
+invoke_found (Some f) r name payload t s =
+    invoke_with f r name (event_with (invoked_event payload) s) t (pend pending.Invocation name r s)
 
 -- a current function by its id
 abbrev pub current : List ℕ → State → Option FunctionEntry
@@ -226,9 +238,11 @@ invoke r name id payload t s = invoke_found (current id s) r name payload t s
 
 abbrev pub take_named : Item → Bool → Run → Op → Taking → Taking
 take_named i no_retry r (op.StepRun name value) taking = keep r name (data_result value) taking
-take_named i no_retry r (op.StepError name error) taking = on_error (is_final i no_retry r taking.state) r name error taking
+take_named i no_retry r (op.StepError name error) taking =
+    on_error (is_final i no_retry r taking.state) r name error taking
 take_named i no_retry r (op.StepPlanned name) taking = plan r name taking
-take_named i no_retry r (op.Sleep name t) taking = noted (note_pending name pending.Sleep r.steps) r (add_sleep r name t) taking
+take_named i no_retry r (op.Sleep name t) taking =
+    noted (note_pending name pending.Sleep r.steps) r (add_sleep r name t) taking
 take_named i no_retry r (op.WaitForEvent name event t cond) taking =
     noted (note_pending name pending.Wait r.steps) r (add_wait r name event t cond) taking
 take_named i no_retry r (op.InvokeFunction name id payload t) taking =
@@ -240,26 +254,30 @@ take_found i no_retry o (Some r) taking = take_named i no_retry r o taking
 
 abbrev pub take_operation : Item → Bool → Op → Taking → Taking
 take_operation i no_retry o taking =
-    elim taking.stopped as (λ _. Taking) [ true ↦ taking | false ↦ take_found i no_retry o (live_run i.run taking.state) taking ]
+    elim taking.stopped as (λ _. Taking)
+    [ true ↦ taking | false ↦ take_found i no_retry o (live_run i.run taking.state) taking ]
 
 -- in order
 unfoldable pub take_operations : Item → Bool → List Op → Taking → Taking
 take_operations i no_retry [] taking = taking
-take_operations i no_retry (o ∷ os) taking = take_operations i no_retry os (take_operation i no_retry o taking)
+take_operations i no_retry (o ∷ os) taking =
+    take_operations i no_retry os (take_operation i no_retry o taking)
 
 -- ## After the operations
 
 -- no item, no open call, nothing that it waits for, and nothing to find out
 abbrev pub is_idle : Run → State → Bool
 is_idle r s =
-    not (list_any (λ (i : Item). r.number == i.run) s.items) && not (list_any (λ (i : Issue). r.number == i.item.run) s.issues)
+    not (list_any (λ (i : Item). r.number == i.run) s.items)
+    && not (list_any (λ (i : Issue). r.number == i.item.run) s.issues)
     && (length r.steps.pending == 0) && not r.wanted
 
 abbrev pub moved_nothing : List ℕ
 moved_nothing = error_object (codes "reply moved nothing")
 
 abbrev pub after_run : Run → Item → After → State → State
-after_run r i after s = elim (is_idle r s) as (λ _. State) [ true ↦ retry_run r i after moved_nothing s | false ↦ s ]
+after_run r i after s =
+    elim (is_idle r s) as (λ _. State) [ true ↦ retry_run r i after moved_nothing s | false ↦ s ]
 
 abbrev pub after_found : Option Run → Item → After → State → State
 after_found None i after s = s
@@ -288,7 +306,7 @@ abbrev pub take_ops : Run → Item → List Op → Bool → After → State → 
 take_ops r i ops no_retry after s =
     elim (lacks_target i ops) as (λ _. State) [
       | true ↦ retry_run r i after (error_object (codes "target missing")) s
-      | false ↦ finished i after (take_operations i no_retry ops (record { state = s; again = false; stopped = false }))
+      | false ↦ finished i after (take_operations i no_retry ops (begun s))
     ]
 
 abbrev pub take_outcome : Run → Item → Outcome → State → State
@@ -296,7 +314,8 @@ take_outcome r i (outcome.Ended output) s = complete_run r output s
 take_outcome r i (outcome.Ops ops no_retry after) s = take_ops r i ops no_retry after s
 take_outcome r i (outcome.Retry after error) s = retry_run r i after error s
 take_outcome r i (outcome.NoRetry error) s = fail_run r error s
-take_outcome r i (outcome.Unreadable at) s = retry_run r i after.None (error_object (codes "unreadable reply")) s
+take_outcome r i (outcome.Unreadable at) s =
+    retry_run r i after.None (error_object (codes "unreadable reply")) s
 
 -- where the run has ended, nothing happens
 abbrev pub reply_found : Option Run → Item → ReplyIn → State → State

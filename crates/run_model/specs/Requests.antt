@@ -20,7 +20,8 @@ repeats event s = option_and_then (λ id. find_seen id s.moment s.seen) event.id
 -- the id of the event that is made next, where it has one, is remembered
 abbrev pub remember : Option (List ℕ) → State → State
 remember None s = s
-remember (Some id) s = record s { seen = note_seen (record { id = id; number = s.events + 1; moment = s.moment }) s.seen }
+remember (Some id) s =
+    record s { seen = note_seen (record { id = id; number = s.events + 1; moment = s.moment }) s.seen }
 
 -- ## Cancel rules
 

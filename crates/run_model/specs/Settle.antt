@@ -25,7 +25,8 @@ body_of r i s = call_body (run_text r.moment r.number) i.attempt r.planned (text
 
 abbrev pub call_with : Function → Run → Item → ℕ → State → Out
 call_with f r i call s =
-    out.Call call f.id i.target r.number i.attempt (length r.steps.recorded) r.events f.host f.port (call_path f.path f.query f.id i.target) (body_of r i s)
+    out.Call call f.id i.target r.number i.attempt (length r.steps.recorded) r.events f.host f.port
+    (call_path f.path f.query f.id i.target) (body_of r i s)
 
 abbrev pub call_found : Option FunctionEntry → Run → Item → ℕ → State → List Out
 call_found None r i call s = []
@@ -47,7 +48,12 @@ called i r = record r { started = true; wanted = r.wanted && not (bytes_eq i.tar
 
 -- an item whose call is made, and no start is needed to make it again
 abbrev pub issued : Item → State → Issue
-issued i s = record { call = s.calls + 1; item = record i { start = None }; limit = s.entries + 1; due = s.moment + longest_call }
+issued i s = record {
+  call = s.calls + 1;
+  item = record i { start = None };
+  limit = s.entries + 1;
+  due = s.moment + longest_call;
+}
 
 abbrev pub issue : Item → State → State
 issue i s = change_run i.run (called i) (record s {
@@ -66,7 +72,8 @@ abbrev pub issue_of : Option Run → Item → Settled → Settled
 issue_of None i settled = record settled { state = issue i settled.state }
 issue_of (Some r) i settled = record {
   state = issue i settled.state;
-  outs = settled.outs ++ call_found (function_at r.version settled.state) r i (settled.state.calls + 1) settled.state;
+  outs = settled.outs
+      ++ call_found (function_at r.version settled.state) r i (settled.state.calls + 1) settled.state;
 }
 
 abbrev pub issue_found : Option Item → Settled → Settled

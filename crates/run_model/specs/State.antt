@@ -1,4 +1,5 @@
--- The state of the documented machine with runs: plain lists in order of making, and the counts of what was named.
+-- The state of the documented machine with runs: plain lists in order of making, and the counts of what was
+-- named.
 use Rattle.std.specs.Prelude.{ℕ, ℤ, ◌+◌, ◌-◌, ◌==◌, Bool, ◌||◌, List, [], ◌∷◌, ◌++◌, map, filter, find, length, take, drop, min, max, Option}
 use Rattle.std.specs.List.{list_any}
 use Rattle.kinds.specs.Moments.{last_moment}
@@ -157,7 +158,8 @@ moment_at reading s = max s.moment (min reading last_moment)
 
 -- time goes on to a moment: ids run out, and throttles that tell nothing of later starts
 abbrev pub at_moment : ℕ → State → State
-at_moment moment s = record s { moment = moment; seen = remembered moment s.seen; starts = later_starts moment s.starts }
+at_moment moment s =
+    record s { moment = moment; seen = remembered moment s.seen; starts = later_starts moment s.starts }
 
 -- ## What is looked up
 
@@ -197,7 +199,9 @@ is_in number numbers = list_any (λ n. number == n) numbers
 
 -- a run that has not ended, or a window, names the event
 abbrev pub is_used : State → EventText → Bool
-is_used s e = list_any (λ (r : Run). is_in e.number r.events) s.live || list_any (λ w. is_in e.number (windows.events_of w)) s.windows
+is_used s e =
+    list_any (λ (r : Run). is_in e.number r.events) s.live
+    || list_any (λ w. is_in e.number (windows.events_of w)) s.windows
 
 abbrev pub bytes_of_texts : List EventText → ℕ
 bytes_of_texts [] = 0
@@ -212,7 +216,8 @@ abbrev pub bytes_of_results : List Run → ℕ
 bytes_of_results [] = 0
 bytes_of_results (r ∷ rs) = bytes_of_steps r.steps.recorded + bytes_of_results rs
 
--- the bytes that are kept: the events that live runs and windows name, the results of live runs, remembered ids
+-- the bytes that are kept: the events that live runs and windows name, the results of live runs, and
+-- remembered ids
 abbrev pub kept : State → ℕ
 kept s = bytes_of_texts (filter (is_used s) s.texts) + bytes_of_results s.live + weight_of s.seen
 
@@ -236,7 +241,8 @@ is_named s e = is_used s e || list_any (λ (r : Run). is_in e.number r.events) s
 -- a run that is there, or a window, names the function version
 abbrev pub is_version_named : State → FunctionEntry → Bool
 is_version_named s f =
-    list_any (λ (r : Run). f.version == r.version) s.live || list_any (λ (r : Run). f.version == r.version) s.closing
+    list_any (λ (r : Run). f.version == r.version) s.live
+    || list_any (λ (r : Run). f.version == r.version) s.closing
     || list_any (λ w. f.version == windows.version_of w) s.windows
 
 -- an ended run's calls have ended too: what names nothing any more goes
