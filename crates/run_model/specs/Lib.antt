@@ -10,4 +10,5 @@ pub mod Recording
 pub mod Replies
 pub mod Requests
 pub mod Settle
+pub mod Sound
 pub mod State

@@ -17,9 +17,8 @@ use Rattle.lists.specs.Entries.{insert_by}
 use Rattle.kinds.specs.RunSteps.{is_recorded}
 use Rattle.kinds.specs.declared.store.Item.{Item}
 use Rattle.run_model.specs.Advance.{Advanced, advance}
-use Rattle.run_model.specs.Ends.{cancel_run}
 use Rattle.run_model.specs.Making.{discover, queue}
-use Rattle.run_model.specs.Recording.{at_once, change_run}
+use Rattle.run_model.specs.Recording.{change_run}
 use Rattle.run_model.specs.Replies.{on_call_failed, on_reply, want}
 use Rattle.run_model.specs.Requests.{Answering, cancel_found, on_events}
 use Rattle.run_model.specs.Settle.{Settled, settle}
