@@ -123,7 +123,7 @@ within t (Some next) = if nat_le next.due t then Some next else None
 abbrev pub due_by : ℕ → State → Option Next
 due_by t s = within t (least (timed s))
 
--- Numbers end long before so much is due.
+-- more than ever falls due by one moment: the numbers of entries end long before
 abbrev pub most : ℕ
 most = 2 ^ 64
 

@@ -77,10 +77,12 @@ retry i after error s = retry_found (live_run i.run s) i after error s
 
 -- ## Names of steps
 
--- the state in the midst of a reply's operations; its call is to be made again; nothing more is taken
+-- in the midst of a reply's operations
 pub record Taking : Type 0 where
   pub state : State
+  -- a step's error says that the reply's call is to be made again
   pub again : Bool
+  -- the run has failed, and no further operation is taken
   pub stopped : Bool
 
 abbrev pub begun : State → Taking

@@ -80,8 +80,8 @@ HasFunction s version = is_some (function_at version s) ≡ true
 -- ## Numbers
 
 -- debounces and then batches, each by number
-abbrev pub comes_before : Window → Window → Bool
-comes_before w other = is_lt (pair_cmp (windows.place_of w) (windows.place_of other))
+abbrev pub stands_before : Window → Window → Bool
+stands_before w other = is_lt (pair_cmp (windows.place_of w) (windows.place_of other))
 
 -- those of each list rise, and are at most their counts; ended runs stand in order of ending
 pub record IsNumbered (s : State) : Type 0 where
@@ -99,7 +99,7 @@ pub record IsNumbered (s : State) : Type 0 where
   pub invocations : RiseTo s.entries (map (λ (e : Invocation). e.number) s.invocations)
   pub rules : RiseTo s.entries (map (λ (e : Rule). e.number) s.rules)
   pub windows : AllByRecursion (λ w. windows.number_of w ≤ s.entries) s.windows
-  pub placed : ArePairwise (λ w later. comes_before w later ≡ true) s.windows
+  pub placed : ArePairwise (λ w later. stands_before w later ≡ true) s.windows
   pub limits : AllByRecursion (λ (i : Issue). i.limit ≤ s.entries) s.issues
   pub open_items : AllByRecursion (λ (i : Issue). i.item.number ≤ s.entries) s.issues
 
@@ -171,6 +171,7 @@ pub record AwaitsOnce (s : State) : Type 0 where
 abbrev pub items_for : State → ℕ → List ℕ → List Item
 items_for s run target = filter (is_item_of run target) (s.items ++ map (λ (i : Issue). i.item) s.issues)
 
+-- an item finds out what comes next, or its target was planned or is recorded
 abbrev pub is_aimed : Run → Item → Bool
 is_aimed r i = bytes_eq i.target step_target || is_planned i.target r.steps || is_recorded i.target r.steps
 
