@@ -10,5 +10,6 @@ pub mod Recording
 pub mod Replies
 pub mod Requests
 pub mod Settle
+pub mod Settled
 pub mod Sound
 pub mod State

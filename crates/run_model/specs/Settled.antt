@@ -1,0 +1,24 @@
+-- What a call sends, against what the state has of its run.
+use Rattle.std.specs.Prelude.{ℕ, ◌≡◌, List, length, IsSomeAnd}
+use Rattle.kinds.specs.declared.out.Out.{Out}
+use Rattle.kinds.specs.declared.out.Out.TheVariants as out
+use Rattle.sdk_call.specs.Body.{call_body}
+use Rattle.step_ids.specs.Run.{run_text}
+use Rattle.run_model.specs.Settle.{texts_of}
+use Rattle.run_model.specs.State.{State, Run, live_run}
+
+-- How many of the run's steps are recorded, the numbers of its events, and a body with the texts of these
+-- events and all recorded steps, in order of recording and as they were recorded.
+pub record SendsRun (s : State) (attempt steps : ℕ) (events body : List ℕ) (r : Run) : Type 0 where
+  pub counted : steps ≡ length r.steps.recorded
+  pub named : events ≡ r.events
+  pub sent :
+      body
+      ≡ call_body (run_text r.moment r.number) attempt r.planned (texts_of r s) r.steps.recorded
+
+-- a call is of a run that has not ended, and sends all that is recorded of it
+abbrev pub SendsRecorded : State → Out → Type 0
+SendsRecorded s (out.Call call function target run attempt steps events host port path body) =
+    IsSomeAnd (live_run run s) (SendsRun s attempt steps events body)
+SendsRecorded s (out.Answer status body) = Unit {0}
+SendsRecorded s (out.Hang call) = Unit {0}
