@@ -2,16 +2,10 @@
 //! and laws that hold of them. It has no code but laws: public functions with empty bodies.
 #![tactic(auto)]
 
+mod laws;
 mod settling;
 
+pub use laws::{
+    numbers_are_counted, numbers_stay_counted, recorded_only_grows, recorded_steps_stay,
+};
 pub use settling::{calls_send_all_that_is_recorded, nothing_admissible_is_left};
-
-ghost use Rattle.run_model.specs.Machine.{fold};
-ghost use Rattle.kinds.specs.declared.limits.Limits.{Limits};
-ghost use Rattle.std.specs.Prelude.{[], ◌≡◌};
-ghost use Rattle.run_model.specs.State.{empty};
-
-/// Before the first input nothing is there.
-pub fn begins_empty()
-    ensures { (limits : Limits) → fold limits [] ≡ empty limits }
-{}

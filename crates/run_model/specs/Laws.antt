@@ -1,0 +1,13 @@
+-- What the laws of histories speak of.
+use Rattle.std.specs.Prelude.{◌≡◌, ◌≤◌, List, ◌++◌}
+use Rattle.std.specs.List.{AllByRecursion}
+use Rattle.kinds.specs.declared.store.StepEntry.{StepEntry}
+use Rattle.run_model.specs.State.{State, Run}
+
+-- Each run that has not ended has one of the numbers that were given to runs, so no new run takes it.
+abbrev pub AreCounted : State → Type 0
+AreCounted s = AllByRecursion (λ (r : Run). r.number ≤ s.runs) s.live
+
+-- the steps before are there still, in front and as they were, and others may follow
+abbrev pub Follows : List StepEntry → List StepEntry → Type 0
+Follows before after = (more : List StepEntry) × (after ≡ before ++ more)

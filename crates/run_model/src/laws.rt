@@ -1,0 +1,36 @@
+// What holds of whole histories: runs have the numbers that were given, and what a run recorded stays.
+ghost use Rattle.kinds.specs.RunSteps.{result_of};
+ghost use Rattle.kinds.specs.declared.input.Input.{Input};
+ghost use Rattle.kinds.specs.declared.limits.Limits.{Limits};
+ghost use Rattle.run_model.specs.Laws.{AreCounted, Follows};
+ghost use Rattle.run_model.specs.Machine.{fold, step};
+ghost use Rattle.run_model.specs.State.{State, Run, live_run};
+ghost use Rattle.std.specs.Prelude.{ℕ, List, ◌≡◌, ◌++◌, Some};
+
+/// Each run that has not ended has one of the numbers that were given to runs, so no new run takes it.
+pub fn numbers_are_counted()
+    ensures { (limits : Limits) (inputs : List Input) → AreCounted (fold limits inputs) }
+{}
+
+/// From any state where this is so, it is so after each input.
+pub fn numbers_stay_counted()
+    ensures { (s : State) (input : Input) → AreCounted s → AreCounted (step s input).state }
+{}
+
+/// What a run recorded before an input, it has recorded after it, in front and as it was, where the run has
+/// not ended: an input adds steps behind those before, takes none away and changes none.
+pub fn recorded_only_grows()
+    ensures { (s : State) (input : Input) → AreCounted s → (number : ℕ) (before after : Run) →
+        live_run number s ≡ Some before → live_run number (step s input).state ≡ Some after →
+        Follows before.steps.recorded after.steps.recorded }
+{}
+
+/// The result that a run recorded for a step is its result of this step after all further inputs, byte for
+/// byte, while the run has not ended.
+pub fn recorded_steps_stay()
+    ensures { (limits : Limits) (inputs more : List Input) (number : ℕ) (before after : Run) →
+        live_run number (fold limits inputs) ≡ Some before →
+        live_run number (fold limits (inputs ++ more)) ≡ Some after →
+        (name text : List ℕ) → result_of name before.steps ≡ Some text →
+        result_of name after.steps ≡ Some text }
+{}
