@@ -11,7 +11,7 @@ use crate::operand::Operand;
 use crate::scope::Scope;
 use crate::worth::worth;
 use crate::{EvalFault, Value};
-use expr::Expr;
+use expr::{Expr, Term};
 use json_text::Tree;
 use kinds::Steps;
 use lists::Bytes;
@@ -33,6 +33,12 @@ pub fn eval<L: Ledger>(
 {
     steps.tick();
     value_over(expr, &Scope::new(alloc, event, fresh))
+}
+
+/// The value of a part of an expression, where `event` stands for the event and there is no fresh one. It isn't
+/// counted as an evaluation.
+pub fn eval_part(alloc: Global, part: &Term, event: &Tree<'_>) -> Result<Value, EvalFault> {
+    shown(worth(part, &Scope::new(alloc, event, None))?, alloc)
 }
 
 fn value_over(expr: &Expr, scope: &Scope<'_, '_>) -> Result<Value, EvalFault>

@@ -2,6 +2,31 @@
 //! `machine_model`, whose state is what contracts see of a `Machine`, and on the small stores.
 #![tactic(auto)]
 
+mod advance;
+mod buckets;
+mod calls;
+mod counts;
+mod discovery;
+mod ended;
+mod ends;
+mod entry;
+mod events;
+mod expressions;
+mod eyes;
+mod invocations;
+mod issues;
 mod machine;
+mod making;
+mod named;
+mod offers;
+mod operations;
+mod replies;
+mod run;
+mod runs;
+mod step;
+mod texts;
+mod versions;
+mod views;
 
 pub use machine::Machine;
+pub use views::RunView;

@@ -1,0 +1,119 @@
+// One step: time goes on, the input acts, and what may be issued is.
+use crate::Machine;
+use crate::discovery::Discovery;
+use crate::machine::LAST_MOMENT;
+use kinds::{App, EventIn, Input, Item, Out, ids_answer};
+use lists::{Bytes, Items, Memory};
+use kinds::Steps;
+use std::alloc::Global;
+use std::sync::ledger::Ledger;
+
+impl Machine {
+    /// Takes one input, and answers the machine after it with what is to be said, in order. Want of memory
+    /// spends the machine.
+    pub fn step<L: Ledger>(
+        mut self,
+        input: Input,
+        steps: &mut Steps<L>,
+    ) -> Result<(Self, Items<Out>), Memory> {
+        let mut outs = Items::new(self.alloc);
+        let moment = self.moment.max(input.at().min(LAST_MOMENT));
+        self.counts.count_input();
+        self.advance(moment, &mut outs, steps)?;
+        self.act(input, &mut outs, steps)?;
+        self.settle(&mut outs, steps)?;
+        Ok((self, outs))
+    }
+
+    // What an input does.
+    fn act<L: Ledger>(
+        &mut self,
+        input: Input,
+        outs: &mut Items<Out>,
+        steps: &mut Steps<L>,
+    ) -> Result<(), Memory> {
+        match input {
+            Input::Events { events, .. } => self.on_events(events.as_slice(), outs, steps),
+            Input::Register { app, .. } => self.on_register(app, outs),
+            Input::Reply { call, reply, .. } => self.on_reply(call, &reply, steps),
+            Input::CallFailed { call, .. } => self.on_call_failed(call, steps),
+            Input::Tick { .. } => Ok(()),
+            Input::Cancel { run, .. } => self.on_cancel(run, outs),
+            Input::Reopened { .. } => self.reopen(),
+        }
+    }
+
+    // The events of a request, answered by their numbers.
+    fn on_events<L: Ledger>(
+        &mut self,
+        events: &[EventIn],
+        outs: &mut Items<Out>,
+        steps: &mut Steps<L>,
+    ) -> Result<(), Memory> {
+        let numbers = self.take_events(events, steps)?;
+        outs.push(ids_answer(self.alloc, numbers.as_slice())?)
+    }
+
+    // The functions of an application, answered by whether anything changed.
+    fn on_register(&mut self, app: App, outs: &mut Items<Out>) -> Result<(), Memory> {
+        let modified = self.register(app)?;
+        outs.push(registered_answer(self.alloc, modified)?)
+    }
+
+    // The functions of an application take the place of those that it had.
+    fn register(&mut self, app: App) -> Result<bool, Memory> {
+        let (versions, modified) = self.versions.register(app, self.counts.versions)?;
+        self.counts.versions = versions;
+        Ok(modified)
+    }
+
+    // A run is cancelled. One that has ended by the advance of this step is answered all the same.
+    fn on_cancel(&mut self, run: u64, outs: &mut Items<Out>) -> Result<(), Memory> {
+        self.cancel_run(run, Discovery::AtOnce)?;
+        outs.push(Out::Answer {
+            status: 204,
+            body: Bytes::new(self.alloc),
+        })
+    }
+
+    // No call is open any more.
+    fn reopen(&mut self) -> Result<(), Memory> {
+        while self.reopen_one()? {}
+        self.discover()
+    }
+
+    // Ends the least open call, and says whether there was one.
+    fn reopen_one(&mut self) -> Result<bool, Memory> {
+        let Some(call) = self.issues.first() else {
+            return Ok(false);
+        };
+        if let Some(item) = self.close(call)? {
+            self.requeue(item)?;
+        }
+        Ok(true)
+    }
+
+    // The item of an open call is queued again as it was, due now, or where its step is recorded it goes.
+    fn requeue(&mut self, item: Item) -> Result<(), Memory> {
+        if !self.runs.is_live(item.run) {
+            return Ok(());
+        }
+        if self.is_recorded(&item) {
+            return self.runs.want(item.run);
+        }
+        let due = self.moment;
+        self.queue_item(Item { due, ..item })
+    }
+}
+
+// The answer to a registration: whether the list of current functions is another than before.
+fn registered_answer(alloc: Global, modified: bool) -> Result<Out, Memory> {
+    let mut body = Bytes::from_slice(alloc, b"{\"ok\":true,\"modified\":")?;
+    if modified {
+        body.extend_from_slice(b"true")?;
+    } else {
+        body.extend_from_slice(b"false")?;
+    }
+    body.extend_from_slice(b"}")?;
+    Ok(Out::Answer { status: 200, body })
+}
