@@ -58,6 +58,13 @@ impl Counters {
         limits.iter().any(|l| self.count(&l.cell) >= l.limit as u64)
     }
 
+    /// The first of the cells that as many issues have as its limit, or more.
+    pub(crate) fn first_full<'a>(&self, limits: &'a [CellLimit]) -> Option<&'a CellLimit> {
+        limits
+            .iter()
+            .find(|l| self.count(&l.cell) >= l.limit as u64)
+    }
+
     /// One more has the cell. A count of 2^64 counts as want of memory.
     pub(crate) fn raise(&mut self, cell: &Cell) -> Result<(), Memory>
         ensures ok { OnOk result (IsRaised cell.now self.old self.new) }

@@ -3,7 +3,7 @@ ghost use Rattle.kinds.specs.Cells.{are_free, has_issue, without_issue, insert_i
 
 use crate::Entries;
 use crate::counters::Counters;
-use kinds::{CellLimits, IssueEntry};
+use kinds::{CellLimit, CellLimits, IssueEntry};
 use lists::Memory;
 use std::alloc::Global;
 use std::collections::BTreeMap;
@@ -46,6 +46,11 @@ impl ConcurrencyKeys {
         ensures { result ≡ are_free cells.now self.now }
     {
         !self.counters.any_full(cells.as_slice())
+    }
+
+    /// The first of the cells in which as many issues are open as its limit, or more. Takes no memory.
+    pub fn first_full<'a>(&self, cells: &'a CellLimits) -> Option<&'a CellLimit> {
+        self.counters.first_full(cells.as_slice())
     }
 
     /// An issue is open, and counts once in each of the cells. A count of 2^64 counts as want of memory.

@@ -3,7 +3,7 @@ use crate::Machine;
 use crate::discovery::Discovery;
 use crate::entry::{Awaited, Entry};
 use crate::run::{data_result, error_result};
-use kinds::{Due, Out, Steps, StepHash, error_object};
+use kinds::{Due, Out, StepHash, Steps, error_object};
 use lists::{Bytes, Items, Memory};
 use std::sync::ledger::Ledger;
 
@@ -68,11 +68,7 @@ impl Machine {
     }
 
     // A window makes its run.
-    fn window_ends<L: Ledger>(
-        &mut self,
-        number: u64,
-        steps: &mut Steps<L>,
-    ) -> Result<(), Memory> {
+    fn window_ends<L: Ledger>(&mut self, number: u64, steps: &mut Steps<L>) -> Result<(), Memory> {
         let Some(fired) = self.windows.fire(number) else {
             return Ok(());
         };

@@ -41,10 +41,10 @@ fn first_compared(term: &Term) -> Option<Compared<'_>> {
     let mut found = None;
     let mut rest = term;
     while let Term::Binary(Operator::And, before, last) = rest {
-        found = first_of(compared(last), found);
+        found = first_of(comparison(last), found);
         rest = before;
     }
-    first_of(compared(rest), found)
+    first_of(comparison(rest), found)
 }
 
 fn first_of<'t>(one: Option<Compared<'t>>, other: Option<Compared<'t>>) -> Option<Compared<'t>> {
@@ -55,7 +55,7 @@ fn first_of<'t>(one: Option<Compared<'t>>, other: Option<Compared<'t>>) -> Optio
 }
 
 // `async.P == E` or `E == async.P`, where E doesn't name the fresh event.
-fn compared(term: &Term) -> Option<Compared<'_>> {
+fn comparison(term: &Term) -> Option<Compared<'_>> {
     match term {
         Term::Binary(Operator::Equal, left, right) => {
             first_of(against(left, right), against(right, left))

@@ -15,6 +15,7 @@ mod expressions;
 mod eyes;
 mod invocations;
 mod issues;
+mod lots;
 mod machine;
 mod making;
 mod named;

@@ -2,6 +2,7 @@ use crate::counts::Counts;
 use crate::ended::EndedRuns;
 use crate::entry::Entry;
 use crate::issues::Issues;
+use crate::lots::Lots;
 use crate::named::Named;
 use crate::runs::Runs;
 use crate::texts::Texts;
@@ -39,6 +40,7 @@ pub struct Machine {
     pub(crate) ended: EndedRuns,
     pub(crate) named: Named,
     pub(crate) queue: ReadyQueue,
+    pub(crate) lots: Lots,
     pub(crate) keys: ConcurrencyKeys,
     pub(crate) starts: Starts,
     pub(crate) issues: Issues,
@@ -64,6 +66,7 @@ impl Machine {
             ended: EndedRuns::empty(alloc),
             named: Named::empty(alloc),
             queue: ReadyQueue::empty(alloc),
+            lots: Lots::empty(alloc),
             keys: ConcurrencyKeys::empty(alloc),
             starts: Starts::empty(alloc),
             issues: Issues::empty(alloc),

@@ -6,7 +6,9 @@ use crate::entry::{Awaited, Entry};
 use crate::expressions::{key_value, shift_of, tree_of};
 use crate::run::{Finding, Run, Stage, hash_of};
 use json_text::Tree;
-use kinds::{Cell, CellLimit, CellLimits, Function, Item, Limit, Numbers, Rule, Scope, Steps, StepHash};
+use kinds::{
+    Cell, CellLimit, CellLimits, Function, Item, Limit, Numbers, Rule, Scope, StepHash, Steps,
+};
 use lists::{Bytes, Items, Memory};
 use run_state::Fresh;
 use std::alloc::Global;
@@ -166,7 +168,10 @@ impl Machine {
 
     /// Whether the step of an item is recorded.
     pub(crate) fn is_recorded(&self, item: &Item) -> bool {
-        match (self.runs.live_run(item.run), hash_of(item.target.as_slice())) {
+        match (
+            self.runs.live_run(item.run),
+            hash_of(item.target.as_slice()),
+        ) {
             (Some(run), Some(hash)) => run.is_recorded(&hash),
             _ => false,
         }

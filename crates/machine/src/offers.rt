@@ -172,7 +172,9 @@ fn is_triggered<L: Ledger>(
     steps: &mut Steps<L>,
 ) -> Result<bool, Memory> {
     for trigger in function.triggers.as_slice() {
-        if trigger.event == event.name && holds(alloc, &trigger.cond, event.text.as_slice(), steps)? {
+        if trigger.event == event.name
+            && holds(alloc, &trigger.cond, event.text.as_slice(), steps)?
+        {
             return Ok(true);
         }
     }

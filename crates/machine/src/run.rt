@@ -1,4 +1,6 @@
-use kinds::{Cell, CellLimits, Item, Numbers, Parent, Pending, RunStatus, StepEntry, StepHash, error_object};
+use kinds::{
+    Cell, CellLimits, Item, Numbers, Parent, Pending, RunStatus, StepEntry, StepHash, error_object,
+};
 use lists::{Bytes, Memory};
 use run_state::{Active, Fresh, Noted};
 use std::alloc::Global;

@@ -2,9 +2,8 @@
 use crate::Machine;
 use crate::discovery::Discovery;
 use crate::machine::LAST_MOMENT;
-use kinds::{App, EventIn, Input, Item, Out, ids_answer};
+use kinds::{App, EventIn, Input, Item, Out, Steps, ids_answer};
 use lists::{Bytes, Items, Memory};
-use kinds::Steps;
 use std::alloc::Global;
 use std::sync::ledger::Ledger;
 
@@ -21,7 +20,7 @@ impl Machine {
         self.counts.count_input();
         self.advance(moment, &mut outs, steps)?;
         self.act(input, &mut outs, steps)?;
-        self.settle(&mut outs, steps)?;
+        self.settle(&mut outs)?;
         Ok((self, outs))
     }
 

@@ -20,13 +20,18 @@ impl Machine {
     /// the dues of items that are to come, and the moments at which throttles let due items start whose cells are
     /// free. Takes no memory.
     pub fn next_moment(&self) -> Option<u64> {
-        let awaited = self.timers.next();
-        let item = self.queue.next(self.moment, &self.keys, &self.starts);
-        match (awaited, item) {
-            (Some(one), Some(other)) => Some(one.min(other)),
-            (Some(one), None) => Some(one),
-            (None, other) => other,
+        let items = sooner(self.queue.next_due(), self.next_start());
+        sooner(self.timers.next(), items)
+    }
+
+    // The earliest moment at which a throttle lets an item start whose cells are free.
+    fn next_start(&self) -> Option<u64> {
+        for (release, lot) in self.lots.releases() {
+            if self.queue.has_free(*lot, &self.keys) {
+                return Some(*release);
+            }
         }
+        None
     }
 
     /// A run that has not ended, or is among the last thousand that have. Takes no memory.
@@ -68,5 +73,13 @@ impl Machine {
             }
         }
         Ok(runs)
+    }
+}
+
+fn sooner(one: Option<u64>, other: Option<u64>) -> Option<u64> {
+    match (one, other) {
+        (Some(one), Some(other)) => Some(one.min(other)),
+        (Some(one), None) => Some(one),
+        (None, other) => other,
     }
 }

@@ -4,6 +4,7 @@ ghost use Rattle.std.specs.Map.{remove_entry};
 ghost use Rattle.std.specs.Ordering.{nat_cmp};
 ghost use Rattle.ready_queue.specs.Places.{place_at, is_front, IsShown, IsHidden, IsFronts, Puts};
 
+use crate::lots::Lots;
 use lists::Memory;
 use std::alloc::Global;
 use std::collections::{BTreeMap, BTreeSet};
@@ -21,6 +22,7 @@ pub(crate) struct Place {
 pub(crate) struct Fronts {
     order: BTreeSet<(u64, u64, u64)>,
     places: BTreeMap<u64, Place>,
+    lots: Lots,
 }
 
 impl Model for Fronts {
@@ -70,6 +72,7 @@ impl Fronts {
         Fronts {
             order: BTreeSet::new(alloc),
             places: BTreeMap::new(alloc),
+            lots: Lots::empty(alloc),
         }
     }
 
@@ -86,6 +89,7 @@ impl Fronts {
         ensures puts { OnOk result (Puts group (Some place) self.old self.new) }
         ensures err { OnErr result (self.new ≡ self.old) }
     {
+        self.lots.put(group, self.place(group), place)?;
         show(&mut self.order, group, place)?;
         match self.places.insert(group, place) {
             Ok(Some(old)) => hide(&mut self.order, group, old, Some(place)),
@@ -114,6 +118,24 @@ impl Fronts {
         let Some(place) = self.places.remove(&group) else {
             return;
         };
+        self.lots.discard(group, place);
         hide(&mut self.order, group, place, None);
+    }
+
+    /// The first group of a lot, with its place.
+    pub(crate) fn first_in(&self, lot: u64) -> Option<(Place, u64)> {
+        self.lots.first(lot)
+    }
+
+    pub(crate) fn lots(&self) -> &Lots {
+        &self.lots
+    }
+
+    /// Moves a group to a lot.
+    pub(crate) fn move_group(&mut self, group: u64, lot: u64) -> Result<(), Memory> {
+        match self.place(group) {
+            Some(place) => self.lots.move_group(group, place, lot),
+            None => Ok(()),
+        }
     }
 }

@@ -8,6 +8,7 @@ ghost use Rattle.ready_queue.specs.Places.{lowered, IsRaised, IsRestored};
 
 use crate::Gate;
 use crate::fronts::{Fronts, Place};
+use crate::lots::Lots;
 use crate::walk::{comes_first, head, least_open};
 use kinds::{Item, Steps};
 use lists::Memory;
@@ -121,6 +122,20 @@ impl Index {
                 true
             }
         }
+    }
+
+    /// The first group of a lot, with its place.
+    pub(crate) fn first_in(&self, lot: u64) -> Option<(Place, u64)> {
+        self.fronts.first_in(lot)
+    }
+
+    pub(crate) fn lots(&self) -> &Lots {
+        self.fronts.lots()
+    }
+
+    /// Moves a group to a lot.
+    pub(crate) fn move_group(&mut self, group: u64, lot: u64) -> Result<(), Memory> {
+        self.fronts.move_group(group, lot)
     }
 
     /// The least key for whose item the gate is open. Looks at each group once.

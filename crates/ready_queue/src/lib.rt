@@ -8,6 +8,7 @@ mod fronts;
 mod gate;
 mod index;
 mod item;
+mod lots;
 mod moment;
 mod pool;
 mod queue;
@@ -19,7 +20,7 @@ mod walk;
 pub use admission::Admission;
 pub use entries::Entries;
 pub use gate::Gate;
-pub use queue::ReadyQueue;
+pub use queue::{Head, ReadyQueue};
 
 #[cfg(test)]
 mod tests;

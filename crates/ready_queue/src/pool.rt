@@ -7,6 +7,7 @@ ghost use Rattle.ready_queue.specs.Held.{holds, Goes};
 ghost use Rattle.ready_queue.specs.Pool.{NoneDue};
 ghost use Rattle.ready_queue.specs.Store.{IsScore, lifted};
 
+use crate::fronts::Place;
 use crate::item::{group_of, lifted};
 use crate::ready::Ready;
 use crate::store::Store;
@@ -236,6 +237,32 @@ impl Pool {
             return Ok(());
         }
         self.ripen(t)
+    }
+
+    /// The first group of a lot, with its place.
+    pub(crate) fn first_in(&self, lot: u64) -> Option<(Place, u64)> {
+        self.ready.first_in(lot)
+    }
+
+    /// Whether the cells of one of the groups of a lot are free.
+    pub(crate) fn has_free(&self, lot: u64, cells: &ConcurrencyKeys) -> bool {
+        self.ready.lots().has_free(lot, self.store.map(), cells)
+    }
+
+    /// Moves a group to a lot.
+    pub(crate) fn move_group(&mut self, group: u64, lot: u64) -> Result<(), Memory> {
+        self.ready.move_group(group, lot)
+    }
+
+    /// The item that has a number.
+    pub(crate) fn get(&self, number: u64) -> Option<&Item> {
+        self.store.get(number)
+    }
+
+    /// The least due past the moment that has come.
+    pub(crate) fn next_due(&self) -> Option<u64> {
+        let (due, _) = *self.waiting.first()?;
+        Some(due)
     }
 
     /// The least of the items' next moments.

@@ -39,6 +39,14 @@ impl Model for ReadyQueue {
     ghost invariant = { λ q. IsListed nat_cmp run_of number_of q.pool.items q.runs.keys };
 }
 
+/// The first item of a group: its score, counted from the least that there is, its number, and its group.
+#[derive(Clone, Copy, Debug, PartialEq, Eq, PartialOrd, Ord)]
+pub struct Head {
+    pub score: u64,
+    pub number: u64,
+    pub group: u64,
+}
+
 impl ReadyQueue {
     /// A value without items, which takes no memory.
     pub fn empty(alloc: Global) -> Self
@@ -91,6 +99,37 @@ impl ReadyQueue {
         ensures asked { steps.new ≤ steps.old + groups_of self.now }
     {
         self.pool.least_admissible(t, gate, steps)
+    }
+
+    /// The first of the groups in a lot by score and number, of items that were due at the moment that came last.
+    /// A new group stands in lot 0, and any other where it was moved. Takes no memory.
+    pub fn first_in(&self, lot: u64) -> Option<Head> {
+        let (place, group) = self.pool.first_in(lot)?;
+        Some(Head {
+            score: place.score,
+            number: place.number,
+            group,
+        })
+    }
+
+    /// Whether the cells of one of the groups of a lot are free. Takes no memory.
+    pub fn has_free(&self, lot: u64, cells: &ConcurrencyKeys) -> bool {
+        self.pool.has_free(lot, cells)
+    }
+
+    /// Moves a group to a lot.
+    pub fn move_group(&mut self, group: u64, lot: u64) -> Result<(), Memory> {
+        self.pool.move_group(group, lot)
+    }
+
+    /// The item that has a number. Takes no memory.
+    pub fn get(&self, number: u64) -> Option<&Item> {
+        self.pool.get(number)
+    }
+
+    /// The least due past the moment that came last. Takes no memory.
+    pub fn next_due(&self) -> Option<u64> {
+        self.pool.next_due()
     }
 
     /// Takes an item out.

@@ -6,8 +6,10 @@ ghost use Rattle.ready_queue.specs.Keys.{Changes};
 ghost use Rattle.ready_queue.specs.Opens.{HaveStarts};
 
 use crate::Gate;
+use crate::fronts::Place;
 use crate::index::Index;
 use crate::item::{Group, copy_of};
+use crate::lots::Lots;
 use kinds::{Item, Steps};
 use lists::Memory;
 use std::alloc::Global;
@@ -101,6 +103,20 @@ impl Ready {
         if !self.index.remove(name, score, number) {
             self.names.remove(group);
         }
+    }
+
+    /// The first group of a lot, with its place.
+    pub(crate) fn first_in(&self, lot: u64) -> Option<(Place, u64)> {
+        self.index.first_in(lot)
+    }
+
+    pub(crate) fn lots(&self) -> &Lots {
+        self.index.lots()
+    }
+
+    /// Moves a group to a lot.
+    pub(crate) fn move_group(&mut self, group: u64, lot: u64) -> Result<(), Memory> {
+        self.index.move_group(group, lot)
     }
 
     /// The least score and number for whose group the gate is open. Looks at each group once.

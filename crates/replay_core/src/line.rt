@@ -6,9 +6,9 @@ ghost use Rattle.std.specs.Option.{option_copied};
 ghost use Rattle.replay_core.specs.Pieces.{text_of_line};
 
 use crate::bytes::find_byte;
+use crate::reply::reply_line;
 use kinds::{EventIn, Input};
 use lists::{Bytes, Items, Memory};
-use crate::reply::reply_line;
 use requests::{Requested, read_events_request, read_register_request};
 use std::alloc::Global;
 use text_num::read_u64;
@@ -33,8 +33,7 @@ pub fn text_of_line(line: &[u8]) -> &[u8]
 }
 
 /// Reads a line without the byte that ends it; `None` where it is outside the grammar.
-pub fn read_line(alloc: Global, text: &[u8]) -> Result<Option<Line>, Memory>
-{
+pub fn read_line(alloc: Global, text: &[u8]) -> Result<Option<Line>, Memory> {
     match text.first() {
         None | Some(b'#') => Ok(Some(Line::Passed)),
         Some(_) => timed_line(alloc, text),
@@ -42,8 +41,7 @@ pub fn read_line(alloc: Global, text: &[u8]) -> Result<Option<Line>, Memory>
 }
 
 // `MS` and what stands behind it.
-fn timed_line(alloc: Global, text: &[u8]) -> Result<Option<Line>, Memory>
-{
+fn timed_line(alloc: Global, text: &[u8]) -> Result<Option<Line>, Memory> {
     let (word, rest) = split_word(text);
     let Ok(at) = read_u64(word) else {
         return Ok(None);
@@ -65,12 +63,7 @@ fn line_at(alloc: Global, at: u64, text: &[u8]) -> Result<Option<Line>, Memory> 
 }
 
 // A line of a kind, from behind its space on.
-fn line_of_kind(
-    alloc: Global,
-    at: u64,
-    kind: &[u8],
-    rest: &[u8],
-) -> Result<Option<Line>, Memory> {
+fn line_of_kind(alloc: Global, at: u64, kind: &[u8], rest: &[u8]) -> Result<Option<Line>, Memory> {
     if kind == b"REGISTER".as_slice() {
         registration_line(alloc, at, rest)
     } else if kind == b"EVENT".as_slice() {

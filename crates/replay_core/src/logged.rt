@@ -19,8 +19,7 @@ pub struct Logged {
 
 impl Logged {
     /// A run that has read nothing, over a blank rig.
-    pub fn start(alloc: Global, form: Form, rig: &mut MemRig) -> Result<Self, Memory>
-    {
+    pub fn start(alloc: Global, form: Form, rig: &mut MemRig) -> Result<Self, Memory> {
         let progress = Progress::start(alloc, form)?;
         let journal = open_journal(alloc, rig)?;
         Ok(Logged { progress, journal })
@@ -32,8 +31,7 @@ impl Logged {
         line: &[u8],
         rig: &mut MemRig,
         said: &mut Bytes,
-    ) -> Result<Self, LineFault>
-    {
+    ) -> Result<Self, LineFault> {
         let ran = self.progress.take_line(line)?;
         let journal = log_line(self.journal, rig, &ran, line)?;
         said.extend_from_slice(ran.text.as_slice())?;
@@ -44,8 +42,7 @@ impl Logged {
     }
 
     /// Runs what follows the last ended line, and adds to `said` what it says and the end line.
-    pub fn finish(self, last: &[u8], rig: &mut MemRig, said: &mut Bytes) -> Result<(), LineFault>
-    {
+    pub fn finish(self, last: &[u8], rig: &mut MemRig, said: &mut Bytes) -> Result<(), LineFault> {
         if last.is_empty() {
             return Ok(self.say_end(said)?);
         }
@@ -54,16 +51,14 @@ impl Logged {
     }
 
     // Adds the end line.
-    fn say_end(&self, said: &mut Bytes) -> Result<(), Memory>
-    {
+    fn say_end(&self, said: &mut Bytes) -> Result<(), Memory> {
         let line = self.progress.end_line()?;
         said.extend_from_slice(line.as_slice())
     }
 }
 
 // Adds a line to the journal where it was accepted.
-fn log_line(journal: Journal, rig: &mut MemRig, ran: &Ran, line: &[u8]) -> Result<Journal, Memory>
-{
+fn log_line(journal: Journal, rig: &mut MemRig, ran: &Ran, line: &[u8]) -> Result<Journal, Memory> {
     if ran.accepted {
         append_line(journal, rig, text_of_line(line))
     } else {

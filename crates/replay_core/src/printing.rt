@@ -9,8 +9,7 @@ use machine::Machine;
 use std::alloc::Global;
 
 /// What a step says, a line for each, in order.
-pub fn outs_text(alloc: Global, form: Form, outs: &[Out]) -> Result<Bytes, Memory>
-{
+pub fn outs_text(alloc: Global, form: Form, outs: &[Out]) -> Result<Bytes, Memory> {
     let mut text = Bytes::new(alloc);
     for out in outs {
         push_out(form, out, &mut text)?;
@@ -19,8 +18,7 @@ pub fn outs_text(alloc: Global, form: Form, outs: &[Out]) -> Result<Bytes, Memor
 }
 
 /// One line.
-pub fn out_text(alloc: Global, form: Form, out: &Out) -> Result<Bytes, Memory>
-{
+pub fn out_text(alloc: Global, form: Form, out: &Out) -> Result<Bytes, Memory> {
     let mut text = Bytes::new(alloc);
     push_out(form, out, &mut text)?;
     Ok(text)

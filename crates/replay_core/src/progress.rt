@@ -49,8 +49,7 @@ pub struct Ran {
 
 impl Progress {
     /// A run that has read nothing, over a blank machine with the shipped limits.
-    pub fn start(alloc: Global, form: Form) -> Result<Self, Memory>
-    {
+    pub fn start(alloc: Global, form: Form) -> Result<Self, Memory> {
         Ok(Progress {
             alloc,
             machine: Machine::empty(alloc, Limits::shipped())?,
@@ -61,20 +60,17 @@ impl Progress {
     }
 
     /// The bytes that the script may still have.
-    pub fn room(&self) -> usize
-    {
+    pub fn room(&self) -> usize {
         self.room
     }
 
     /// The number of the line that comes next, counted from 1.
-    pub fn next_line(&self) -> u64
-    {
+    pub fn next_line(&self) -> u64 {
         self.lines + 1
     }
 
     /// Runs the next line, given with the byte that ends it, where it has one.
-    pub fn take_line(self, line: &[u8]) -> Result<Ran, LineFault>
-    {
+    pub fn take_line(self, line: &[u8]) -> Result<Ran, LineFault> {
         let counted = self.count_line(line.len());
         match read_line(counted.alloc, text_of_line(line))? {
             None => Err(LineFault::Outside {
@@ -87,16 +83,14 @@ impl Progress {
     }
 
     // A line of so many bytes is counted before it is run.
-    fn count_line(mut self, size: usize) -> Self
-    {
+    fn count_line(mut self, size: usize) -> Self {
         self.lines += 1;
         self.room -= size;
         self
     }
 
     // A line that says nothing.
-    fn pass(self) -> Ran
-    {
+    fn pass(self) -> Ran {
         let text = Bytes::new(self.alloc);
         Ran {
             progress: self,
@@ -106,8 +100,7 @@ impl Progress {
     }
 
     // A line that is answered, and changes nothing.
-    fn say(self, out: &Out) -> Result<Ran, Memory>
-    {
+    fn say(self, out: &Out) -> Result<Ran, Memory> {
         let text = out_text(self.alloc, self.form, out)?;
         Ok(Ran {
             progress: self,
@@ -117,8 +110,7 @@ impl Progress {
     }
 
     // Takes an input, or says why it is refused.
-    fn take_input(self, input: Input) -> Result<Ran, LineFault>
-    {
+    fn take_input(self, input: Input) -> Result<Ran, LineFault> {
         match self.machine.check(&input) {
             Ok(()) => Ok(self.take_accepted(input)?),
             Err(cause) => self.refuse(cause),
@@ -126,8 +118,7 @@ impl Progress {
     }
 
     // A refused input changes nothing.
-    fn refuse(self, cause: Refusal) -> Result<Ran, LineFault>
-    {
+    fn refuse(self, cause: Refusal) -> Result<Ran, LineFault> {
         match cause {
             Refusal::NumbersSpent { .. } => Err(LineFault::Spent),
             Refusal::UnknownCall { .. } | Refusal::UnknownRun { .. } => {
@@ -144,8 +135,7 @@ impl Progress {
     }
 
     // Takes an accepted input.
-    fn take_accepted(mut self, input: Input) -> Result<Ran, Memory>
-    {
+    fn take_accepted(mut self, input: Input) -> Result<Ran, Memory> {
         let (machine, outs) = step::<Brand>(Blank::new(1), self.machine, input)?;
         self.machine = machine;
         let text = outs_text(self.alloc, self.form, outs.as_slice())?;
@@ -157,8 +147,7 @@ impl Progress {
     }
 
     /// The last line.
-    pub fn end_line(&self) -> Result<Bytes, Memory>
-    {
+    pub fn end_line(&self) -> Result<Bytes, Memory> {
         end_line(self.alloc, &self.machine)
     }
 }

@@ -30,11 +30,7 @@ fn reply_to(alloc: Global, at: u64, call: u64, text: &[u8]) -> Result<Option<Lin
         retry,
         body,
     };
-    Ok(Some(Line::Asks(Requested::Input(Input::Reply {
-        at,
-        call,
-        reply,
-    }))))
+    Ok(Some(Line::Asks(Requested::Input(Input::Reply { at, call, reply }))))
 }
 
 // Three digits, from 100 on.

@@ -1,8 +1,8 @@
 // The run of a script: one loop reads, runs a line at a time and writes what the lines say.
 
 use crate::ReplayEnd;
-use crate::form::Form;
 use crate::end::{LineFault, RunFault, end_of, unwritten};
+use crate::form::Form;
 use crate::line::text_of_line;
 use crate::logged::Logged;
 use crate::reader::LineReader;
@@ -23,8 +23,7 @@ pub fn run_script<I: Source, O: Sink>(
     form: Form,
     input: &mut I,
     out: &mut O,
-) -> ReplayEnd
-{
+) -> ReplayEnd {
     match MemRig::new(alloc, 0) {
         Ok(mut rig) => run_lines(alloc, form, &mut rig, input, out),
         Err(Memory) => ReplayEnd::Memory,
@@ -40,8 +39,7 @@ pub fn run_lines<I: Source, O: Sink>(
     rig: &mut MemRig,
     input: &mut I,
     out: &mut O,
-) -> ReplayEnd
-{
+) -> ReplayEnd {
     let mut said = Bytes::new(alloc);
     let end = end_of(run_all(alloc, form, rig, input, out, &mut said));
     match write_said(&mut said, out) {
@@ -51,8 +49,7 @@ pub fn run_lines<I: Source, O: Sink>(
 }
 
 // Writes all that has gathered, where there is any; in both cases nothing of it is left.
-fn write_said<O: Sink>(said: &mut Bytes, out: &mut O) -> Result<(), WriteFailed>
-{
+fn write_said<O: Sink>(said: &mut Bytes, out: &mut O) -> Result<(), WriteFailed> {
     if said.is_empty() {
         return Ok(());
     }
@@ -62,8 +59,7 @@ fn write_said<O: Sink>(said: &mut Bytes, out: &mut O) -> Result<(), WriteFailed>
 }
 
 // The same once enough has gathered.
-fn write_full<O: Sink>(said: &mut Bytes, out: &mut O) -> Result<(), WriteFailed>
-{
+fn write_full<O: Sink>(said: &mut Bytes, out: &mut O) -> Result<(), WriteFailed> {
     if said.len() < SAID_SIZE {
         return Ok(());
     }
@@ -83,8 +79,7 @@ fn run_all<I: Source, O: Sink>(
     input: &mut I,
     out: &mut O,
     said: &mut Bytes,
-) -> Result<(), RunFault>
-{
+) -> Result<(), RunFault> {
     let mut logged = Logged::start(alloc, form, rig)?;
     let mut lines = LineReader::new(alloc)?;
     'reading: loop {

@@ -6,7 +6,7 @@ use crate::Entries;
 use kinds::{Cell, StartEntry};
 use lists::Memory;
 use std::alloc::Global;
-use std::collections::BTreeMap;
+use std::collections::{BTreeMap, BTreeSet};
 use std::marker::Model;
 
 /// For each cell of a throttle the greatest `s + m * T` over its starts `s`, with `m` the starts from `s` on
@@ -15,6 +15,8 @@ use std::marker::Model;
 #[derive(Drop)]
 pub struct Starts {
     entries: BTreeMap<Cell, StartEntry>,
+    /// The greatest of each cell, and the cell.
+    ends: BTreeSet<(u64, Cell)>,
 }
 
 impl Model for Starts {
@@ -72,6 +74,7 @@ impl Starts {
     {
         Starts {
             entries: BTreeMap::new(alloc),
+            ends: BTreeSet::new(alloc),
         }
     }
 
@@ -140,6 +143,8 @@ impl Starts {
             cell: cell.clone()?,
             greatest,
         };
+        self.drop_end(cell);
+        self.ends.insert((greatest, cell.clone()?))?;
         self.entries.insert(key, entry)?;
         Ok(())
     }
@@ -149,7 +154,35 @@ impl Starts {
     pub fn forget(&mut self, moment: u64)
         ensures { self.new ≡ later_starts moment self.old }
     {
-        self.entries.retain(|_, entry| moment < entry.greatest);
+        while self.forget_one(moment) {}
+    }
+
+    // Drops the entry that ends first, where it has ended, and says whether it has.
+    fn forget_one(&mut self, moment: u64) -> bool {
+        let Some((greatest, _)) = self.ends.first() else {
+            return false;
+        };
+        if moment < *greatest {
+            return false;
+        }
+        match self.ends.pop_first() {
+            Some((_, cell)) => {
+                self.entries.remove(&cell);
+                true
+            }
+            None => false,
+        }
+    }
+
+    // The end of a cell, where it has one, is no longer its end.
+    fn drop_end(&mut self, cell: &Cell) {
+        let Some(entry) = self.entries.get(cell) else {
+            return;
+        };
+        let Ok(copy) = entry.cell.clone() else {
+            return;
+        };
+        self.ends.remove(&(entry.greatest, copy));
     }
 
     /// The entries by reference, in order of cell.

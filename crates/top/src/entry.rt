@@ -17,11 +17,11 @@ pub fn run<R: Rig, I: Source, O: Sink>(
     input: &mut I,
     out: &mut O,
 ) -> Status
-    // The words decide whether anything is run.
+// The words decide whether anything is run.
 
-    // What is written of a script, and what of it was read.
+// What is written of a script, and what of it was read.
 
-    // A call of the source or the sink that fails ends the run, and it ends so only where one failed.
+// A call of the source or the sink that fails ends the run, and it ends so only where one failed.
 
 {
     match program {
@@ -34,8 +34,7 @@ fn run_replay<I: Source, O: Sink>(
     words: &[String],
     input: &mut I,
     out: &mut O,
-) -> Status
-{
+) -> Status {
     let Some(form) = form_of(words) else {
         let _ = say(b"usage: replay [--brief]\n", out);
         return Status::Usage;
@@ -55,14 +54,12 @@ fn form_of(words: &[String]) -> Option<Form> {
 }
 
 // Writes a text, whole or in a part.
-fn say<O: Sink>(text: &[u8], out: &mut O) -> Result<(), WriteFailed>
-{
+fn say<O: Sink>(text: &[u8], out: &mut O) -> Result<(), WriteFailed> {
     out.write(text)
 }
 
 // Writes the last line of a script's end, where it has one. Whether that fails changes no status.
-fn say_last_line<O: Sink>(end: ReplayEnd, out: &mut O) -> Result<(), WriteFailed>
-{
+fn say_last_line<O: Sink>(end: ReplayEnd, out: &mut O) -> Result<(), WriteFailed> {
     match end {
         ReplayEnd::Done | ReplayEnd::WriteFault => Ok(()),
         ReplayEnd::Script { line } => say_script_fault(line, out),
@@ -73,8 +70,7 @@ fn say_last_line<O: Sink>(end: ReplayEnd, out: &mut O) -> Result<(), WriteFailed
 }
 
 // Writes the line in parts, so that it takes no memory.
-fn say_script_fault<O: Sink>(line: u64, out: &mut O) -> Result<(), WriteFailed>
-{
+fn say_script_fault<O: Sink>(line: u64, out: &mut O) -> Result<(), WriteFailed> {
     let mut number = Buffer::new();
     say(b"script fault in line ", out)?;
     say(number.format(line).as_bytes(), out)?;
