@@ -2,7 +2,7 @@
 use crate::Machine;
 use crate::discovery::Discovery;
 use crate::entry::{Awaited, Entry};
-use crate::run::{data_result, error_result};
+use crate::results::{data_result, error_result};
 use kinds::{Due, Out, StepHash, Steps, error_object};
 use lists::{Bytes, Items, Memory};
 use std::sync::ledger::Ledger;

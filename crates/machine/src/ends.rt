@@ -2,7 +2,8 @@
 use crate::Machine;
 use crate::discovery::Discovery;
 use crate::ended::EndedRun;
-use crate::run::{Invoker, data_result, error_result};
+use crate::results::{data_result, error_result};
+use crate::run::Invoker;
 use kinds::{EventIn, RunStatus, Steps, error_object};
 use lists::{Bytes, Memory};
 use std::sync::ledger::Ledger;

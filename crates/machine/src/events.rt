@@ -3,7 +3,7 @@ use crate::Machine;
 use crate::discovery::Discovery;
 use crate::entry::Awaited;
 use crate::eyes::Eyes;
-use crate::run::data_result;
+use crate::results::data_result;
 use intake::event_text;
 use kinds::{Event, EventIn, Numbers, Steps};
 use lists::Memory;

@@ -2,7 +2,8 @@
 use crate::Machine;
 use crate::entry::Awaited;
 use crate::expressions::tree_of;
-use crate::run::{Invoker, Naming, error_result};
+use crate::results::error_result;
+use crate::run::{Invoker, Naming};
 use json_text::{Kind, Node, Tree};
 use kinds::{EventIn, Numbers, Parent, Pending, StepHash, Steps, Time, error_object};
 use lists::{Bytes, Memory};

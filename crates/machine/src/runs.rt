@@ -1,4 +1,5 @@
-use crate::run::{Invoker, Naming, Run, hash_of};
+use crate::results::hash_of;
+use crate::run::{Invoker, Naming, Run};
 use kinds::{Item, Pending, StepHash};
 use lists::{Bytes, Memory};
 use std::alloc::Global;
