@@ -220,7 +220,7 @@ fn is_function(name: &Bytes, function: &Function, entry: &FunctionEntry) -> bool
 fn stands_for(app: &App, function: &Function, entry: &FunctionEntry) -> bool
     ensures { result ≡ stands_for app.now function.now entry.now }
 {
-    stays(app, entry) && is_function(&app.name, function, entry)
+    is_function(&app.name, function, entry) && stays(app, entry)
 }
 
 // Whether the function stays current.
