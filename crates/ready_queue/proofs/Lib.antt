@@ -7,6 +7,7 @@ pub mod Pigeons
 pub mod PoolLemmas
 pub mod RankLemmas
 pub mod ReadyLemmas
+pub mod Rows
 pub mod RunLemmas
 pub mod ScanLemmas
 pub mod Shut
