@@ -1,0 +1,13 @@
+pub mod Advance
+pub mod Buckets
+pub mod Ends
+pub mod Events
+pub mod Expressions
+pub mod Machine
+pub mod Making
+pub mod Next
+pub mod Recording
+pub mod Replies
+pub mod Requests
+pub mod Settle
+pub mod State

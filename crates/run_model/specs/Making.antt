@@ -1,0 +1,152 @@
+-- Making a run: its cells, its rules, and its first item.
+use Rattle.std.specs.Prelude.{ℕ, ℤ, pos, ◌*ℤ◌, ◌-ℤ◌, ◌+◌, ◌==◌, Bool, true, false, not, ◌&&◌, ◌||◌, List, [], ◌∷◌, ◌++◌, find, min, codes, Option, Some, None, if◌then◌else◌, bytes_eq}
+use Rattle.std.specs.List.{list_any}
+use Rattle.std.specs.Option.{option_map}
+use Rattle.kinds.specs.Cells.{has_cell, is_cell}
+use Rattle.kinds.specs.Queue.{insert_item}
+use Rattle.kinds.specs.RunSteps.{no_steps}
+use Rattle.kinds.specs.declared.cell.Cell.{Cell}
+use Rattle.kinds.specs.declared.cell.Cell.TheVariants as cell
+use Rattle.kinds.specs.declared.cell.CellLimit.{CellLimit}
+use Rattle.kinds.specs.declared.function.CancelEntry.{CancelEntry}
+use Rattle.kinds.specs.declared.function.Function.{Function}
+use Rattle.kinds.specs.declared.function.Limit.{Limit}
+use Rattle.kinds.specs.declared.function.Scope.{Scope}
+use Rattle.kinds.specs.declared.function.Scope.TheVariants as scope
+use Rattle.kinds.specs.declared.function.Throttle.{Throttle}
+use Rattle.kinds.specs.declared.store.Item.{Item}
+use Rattle.kinds.specs.declared.store.Parent.{Parent}
+use Rattle.kinds.specs.declared.store.Rule.{Rule}
+use Rattle.functions.specs.declared.entry.FunctionEntry.{FunctionEntry}
+use Rattle.run_model.specs.Buckets.{bucket_of}
+use Rattle.run_model.specs.Expressions.{key_value, priority_shift}
+use Rattle.run_model.specs.State.{State, Run, Issue, EventText, text_of}
+
+-- ## Cells, from a function and the text of a run's first event
+
+abbrev pub cell_with : Scope → List ℕ → ℕ → List ℕ → Cell
+cell_with scope.Own function place value = cell.Own function place value
+cell_with scope.Env function place value = cell.Env value
+cell_with scope.Account function place value = cell.Account value
+
+abbrev pub cell_of : List ℕ → List ℕ → Limit → Cell
+cell_of function event l = cell_with l.scope function l.place (key_value l.key event)
+
+abbrev pub lesser_at : CellLimit → CellLimit → CellLimit
+lesser_at l other = if is_cell l.cell other.cell then record other { limit = min l.limit other.limit } else other
+
+abbrev pub lowered : CellLimit → List CellLimit → List CellLimit
+lowered l [] = []
+lowered l (other ∷ others) = lesser_at l other ∷ lowered l others
+
+-- A cell stands once, with the lesser limit.
+abbrev pub with_limit : List CellLimit → CellLimit → List CellLimit
+with_limit ls l = if has_cell l.cell ls then lowered l ls else ls ++ l ∷ []
+
+abbrev pub cells_with : List ℕ → List ℕ → List CellLimit → List Limit → List CellLimit
+cells_with function event ls [] = ls
+cells_with function event ls (l ∷ rest) =
+    cells_with function event (with_limit ls (record { cell = cell_of function event l; limit = l.limit })) rest
+
+abbrev pub cells_of : Function → List ℕ → List CellLimit
+cells_of f event = cells_with f.id event [] f.limits
+
+abbrev pub throttle_cell : List ℕ → List ℕ → Throttle → Cell
+throttle_cell function event t = cell.Throttle function t.limit t.period t.burst t.key (key_value t.key event)
+
+abbrev pub start_of : Function → List ℕ → Option Cell
+start_of f event = option_map (throttle_cell f.id event) f.throttle
+
+-- ## Items
+
+-- to find out what comes next
+abbrev pub step_target : List ℕ
+step_target = codes "step"
+
+abbrev pub is_item_of : ℕ → List ℕ → Item → Bool
+is_item_of run target i = (run == i.run) && bytes_eq target i.target
+
+-- the lesser comes first
+abbrev pub score_of : Run → ℤ
+score_of r = pos r.moment -ℤ (pos 1000 *ℤ r.shift)
+
+abbrev pub unless : {X : Type 0} → Bool → Option X → Option X
+unless true x = None
+unless false x = x
+
+-- an item that is made now
+abbrev pub new_item : Run → List ℕ → State → Item
+new_item r target s = record {
+  number = s.entries + 1; run = r.number; target = target; attempt = 0; due = s.moment;
+  score = score_of r; cells = r.cells; start = unless r.started r.start;
+}
+
+abbrev pub queue : Item → State → State
+queue item s = record s { items = insert_item item s.items }
+
+abbrev pub queue_new : Run → List ℕ → State → State
+queue_new r target s = queue (new_item r target s) (record s { entries = s.entries + 1 })
+
+-- ## What finds out what comes next
+
+-- an item that finds it out is queued, or its call is open
+abbrev pub has_discovery : State → ℕ → Bool
+has_discovery s run = list_any (is_item_of run step_target) s.items || list_any (λ (i : Issue). is_item_of run step_target i.item) s.issues
+
+abbrev pub discover_one : Run → State → State
+discover_one r s = if r.wanted && not (has_discovery s r.number) then queue_new r step_target s else s
+
+abbrev pub discover_all : List Run → State → State
+discover_all [] s = s
+discover_all (r ∷ rs) s = discover_all rs (discover_one r s)
+
+-- Each run that has not ended, has something recorded since and has no such item gets one, in order of run.
+unfoldable pub discover : State → State
+discover s = discover_all s.live s
+
+-- ## Rules
+
+abbrev pub rule_of : Run → ℕ → List ℕ → State → CancelEntry → Rule
+rule_of r first event s c = record {
+  number = s.entries + 1; run = r.number; first = first; name = c.event; cond = c.cond;
+  due = option_map (λ timeout. s.moment + timeout) c.timeout; bucket = bucket_of c.cond event;
+}
+
+abbrev pub add_rule : Run → ℕ → List ℕ → CancelEntry → State → State
+add_rule r first event c s = record s { entries = s.entries + 1; rules = s.rules ++ rule_of r first event s c ∷ [] }
+
+abbrev pub add_rules : Run → ℕ → List ℕ → List CancelEntry → State → State
+add_rules r first event [] s = s
+add_rules r first event (c ∷ cs) s = add_rules r first event cs (add_rule r first event c s)
+
+-- ## Runs
+
+-- a run of a function with events, the first of which has this text
+abbrev pub run_with : FunctionEntry → List ℕ → List ℕ → Option Parent → State → Run
+run_with f events event parent s = record {
+  number = s.runs + 1; moment = s.moment; version = f.version; events = events;
+  cells = cells_of f.function event; start = start_of f.function event;
+  shift = priority_shift f.function.priority event;
+  wanted = true; planned = false; started = false; parent = parent; steps = no_steps;
+}
+
+-- its rules take numbers, and then its first item
+abbrev pub add_run : Run → ℕ → List ℕ → List CancelEntry → State → State
+add_run r first event cancels s =
+    queue_new r step_target (add_rules r first event cancels (record s { runs = s.runs + 1; live = s.live ++ r ∷ [] }))
+
+abbrev pub first_of : List ℕ → ℕ
+first_of [] = 0
+first_of (n ∷ ns) = n
+
+abbrev pub text_or_none : Option EventText → List ℕ
+text_or_none None = []
+text_or_none (Some e) = e.text
+
+abbrev pub make_run_over : FunctionEntry → List ℕ → List ℕ → Option Parent → State → State
+make_run_over f events event parent s =
+    add_run (run_with f events event parent s) (first_of events) event f.function.cancels s
+
+-- a run of this function with these events
+unfoldable pub make_run : FunctionEntry → List ℕ → Option Parent → State → State
+make_run f events parent s = make_run_over f events (text_or_none (text_of (first_of events) s)) parent s

@@ -1,0 +1,237 @@
+-- The state of the documented machine with runs: plain lists in order of making, and the counts of what was named.
+use Rattle.std.specs.Prelude.{ℕ, ℤ, ◌+◌, ◌-◌, ◌==◌, Bool, true, false, ◌||◌, List, [], ◌∷◌, ◌++◌, map, filter, find, length, take, drop, min, max, Option, Some, None}
+use Rattle.std.specs.List.{list_any}
+use Rattle.kinds.specs.Moments.{last_moment}
+use Rattle.kinds.specs.RunSteps.{RunSteps}
+use Rattle.kinds.specs.Cells.{later_starts}
+use Rattle.kinds.specs.Seen.{remembered, weight_of}
+use Rattle.kinds.specs.Windows as windows
+use Rattle.kinds.specs.declared.cell.Cell.{Cell}
+use Rattle.kinds.specs.declared.cell.CellLimit.{CellLimit}
+use Rattle.kinds.specs.declared.cell.IssueEntry.{IssueEntry}
+use Rattle.kinds.specs.declared.cell.StartEntry.{StartEntry}
+use Rattle.kinds.specs.declared.limits.Limits.{Limits}
+use Rattle.kinds.specs.declared.seen.SeenEntry.{SeenEntry}
+use Rattle.kinds.specs.declared.store.Item.{Item}
+use Rattle.kinds.specs.declared.store.Parent.{Parent}
+use Rattle.kinds.specs.declared.store.Rule.{Rule}
+use Rattle.kinds.specs.declared.store.RunStatus.{RunStatus}
+use Rattle.kinds.specs.declared.store.StepEntry.{StepEntry}
+use Rattle.kinds.specs.declared.store.Wait.{Wait}
+use Rattle.kinds.specs.declared.window.Window.{Window}
+use Rattle.functions.specs.declared.entry.FunctionEntry.{FunctionEntry}
+
+-- ## What the lists hold
+
+-- an accepted event: its number, and the JSON text that it goes on as
+pub record EventText : Type 0 where
+  pub number : ℕ
+  pub text : List ℕ
+
+pub record Run : Type 0 where
+  pub number : ℕ
+  -- when it was made
+  pub moment : ℕ
+  -- the function that it is a run of
+  pub version : ℕ
+  -- the numbers of its events, in order, at least one
+  pub events : List ℕ
+  -- its concurrency cells with their limits, each cell once
+  pub cells : List CellLimit
+  -- its throttle's cell
+  pub start : Option Cell
+  -- so many seconds it goes before others of its moment, from -600 to 600
+  pub shift : ℤ
+  -- something was recorded since its last call that finds out what comes next, or there was none yet
+  pub wanted : Bool
+  -- it planned a step
+  pub planned : Bool
+  -- a call of it was made
+  pub started : Bool
+  pub parent : Option Parent
+  pub steps : RunSteps
+
+-- an open call, with the item that it was made for
+pub record Issue : Type 0 where
+  pub call : ℕ
+  pub item : Item
+  -- the number and the moment of its limit
+  pub limit : ℕ
+  pub due : ℕ
+
+pub record Sleep : Type 0 where
+  pub number : ℕ
+  pub run : ℕ
+  pub hash : List ℕ
+  pub due : ℕ
+
+-- a wait with the name of its step
+pub record Waiting : Type 0 where
+  pub wait : Wait
+  pub hash : List ℕ
+
+-- a step that waits for the end of a run
+pub record Invocation : Type 0 where
+  pub number : ℕ
+  pub run : ℕ
+  pub hash : List ℕ
+  pub child : ℕ
+  pub due : Option ℕ
+
+pub record EndedRun : Type 0 where
+  pub run : ℕ
+  pub moment : ℕ
+  pub function : List ℕ
+  pub status : RunStatus
+  pub events : List ℕ
+
+-- ## The state
+
+pub record State : Type 0 where
+  -- how much is kept before new work is turned away
+  pub limits : Limits
+  -- milliseconds since 1970; it never goes back
+  pub moment : ℕ
+  -- the inputs that were taken, and the numbers that were given to events, runs, calls, entries and versions
+  pub inputs : ℕ
+  pub events : ℕ
+  pub runs : ℕ
+  pub calls : ℕ
+  pub entries : ℕ
+  pub versions : ℕ
+  -- the functions that are current, in order of version
+  pub functions : List FunctionEntry
+  -- those that no longer are and that a run or a window names, in order of version
+  pub retired : List FunctionEntry
+  -- the ids that still tell a repeated event
+  pub seen : List SeenEntry
+  -- the events that a run or a window names, in order of number
+  pub texts : List EventText
+  -- the runs that have not ended, and those that have and whose calls are open still, each in order of number
+  pub live : List Run
+  pub closing : List Run
+  -- the calls that are to be made, in order of number, and those that are open
+  pub items : List Item
+  pub issues : List Issue
+  pub sleeps : List Sleep
+  pub waits : List Waiting
+  pub invocations : List Invocation
+  pub rules : List Rule
+  pub windows : List Window
+  -- the throttles that tell anything of later starts, in order of cell
+  pub starts : List StartEntry
+  -- the last thousand that ended and those whose calls are open still, in order of ending
+  pub ended : List EndedRun
+
+-- the state before the first input
+abbrev pub empty : Limits → State
+empty limits = record {
+  limits = limits; moment = 0; inputs = 0; events = 0; runs = 0; calls = 0; entries = 0; versions = 0;
+  functions = []; retired = []; seen = []; texts = []; live = []; closing = []; items = []; issues = [];
+  sleeps = []; waits = []; invocations = []; rules = []; windows = []; starts = []; ended = [];
+}
+
+-- the moment of an input with this clock reading
+abbrev pub moment_at : ℕ → State → ℕ
+moment_at reading s = max s.moment (min reading last_moment)
+
+-- time goes on to a moment: ids run out, and throttles that tell nothing of later starts
+abbrev pub at_moment : ℕ → State → State
+at_moment moment s = record s { moment = moment; seen = remembered moment s.seen; starts = later_starts moment s.starts }
+
+-- ## What is looked up
+
+-- what an event goes on as
+abbrev pub text_of : ℕ → State → Option EventText
+text_of number s = find (λ (e : EventText). number == e.number) s.texts
+
+abbrev pub live_run : ℕ → State → Option Run
+live_run number s = find (λ (r : Run). number == r.number) s.live
+
+abbrev pub open_issue : ℕ → State → Option Issue
+open_issue call s = find (λ (i : Issue). call == i.call) s.issues
+
+-- a function by its version, current or not
+abbrev pub function_at : ℕ → State → Option FunctionEntry
+function_at version s = find (λ (f : FunctionEntry). version == f.version) (s.functions ++ s.retired)
+
+-- the open calls as cells count them
+abbrev pub in_cells : Issue → IssueEntry
+in_cells i = record { issue = i.call; cells = i.item.cells }
+
+abbrev pub issue_entries : State → List IssueEntry
+issue_entries s = map in_cells s.issues
+
+-- ## How much there is
+
+-- the greatest count of names and inputs
+abbrev pub greatest : State → ℕ
+greatest s = max (max (max s.inputs s.events) (max s.runs s.calls)) (max s.entries s.versions)
+
+-- the runs that have not ended
+abbrev pub live : State → ℕ
+live s = length s.live
+
+abbrev pub is_in : ℕ → List ℕ → Bool
+is_in number numbers = list_any (λ n. number == n) numbers
+
+-- a run that has not ended, or a window, names the event
+abbrev pub is_used : State → EventText → Bool
+is_used s e = list_any (λ (r : Run). is_in e.number r.events) s.live || list_any (λ w. is_in e.number (windows.events_of w)) s.windows
+
+abbrev pub bytes_of_texts : List EventText → ℕ
+bytes_of_texts [] = 0
+bytes_of_texts (e ∷ es) = length e.text + bytes_of_texts es
+
+-- the bytes of a run's results
+abbrev pub bytes_of_steps : List StepEntry → ℕ
+bytes_of_steps [] = 0
+bytes_of_steps (e ∷ es) = length e.result + bytes_of_steps es
+
+abbrev pub bytes_of_results : List Run → ℕ
+bytes_of_results [] = 0
+bytes_of_results (r ∷ rs) = bytes_of_steps r.steps.recorded + bytes_of_results rs
+
+-- the bytes that are kept: the events that live runs and windows name, the results of live runs, remembered ids
+abbrev pub kept : State → ℕ
+kept s = bytes_of_texts (filter (is_used s) s.texts) + bytes_of_results s.live + weight_of s.seen
+
+-- the runs that ended last, a thousand at most
+abbrev pub last_ended : State → List EndedRun
+last_ended s = drop (length s.ended - 1000) s.ended
+
+-- ## What is kept from one input to the next
+
+abbrev pub has_open_call : List Issue → ℕ → Bool
+has_open_call issues run = list_any (λ (i : Issue). run == i.item.run) issues
+
+-- Of a list's entries those that pass, and the last so many whether they pass or not.
+abbrev pub last_or : {X : Type 0} → (X → Bool) → ℕ → List X → List X
+last_or passes most xs = filter passes (take (length xs - most) xs) ++ drop (length xs - most) xs
+
+-- a run that is there, or a window, names the event
+abbrev pub is_named : State → EventText → Bool
+is_named s e = is_used s e || list_any (λ (r : Run). is_in e.number r.events) s.closing
+
+-- a run that is there, or a window, names the function version
+abbrev pub is_version_named : State → FunctionEntry → Bool
+is_version_named s f =
+    list_any (λ (r : Run). f.version == r.version) s.live || list_any (λ (r : Run). f.version == r.version) s.closing
+    || list_any (λ w. f.version == windows.version_of w) s.windows
+
+-- an ended run's calls have ended too: what names nothing any more goes
+abbrev pub without_closed : State → State
+without_closed s = record s {
+  closing = filter (λ (r : Run). has_open_call s.issues r.number) s.closing;
+  ended = last_or (λ (e : EndedRun). has_open_call s.issues e.run) 1000 s.ended;
+}
+
+abbrev pub without_unnamed : State → State
+without_unnamed s = record s {
+  texts = filter (is_named s) s.texts;
+  retired = filter (is_version_named s) s.retired;
+}
+
+-- what stays at the end of a step
+unfoldable pub tidied : State → State
+tidied s = without_unnamed (without_closed s)
