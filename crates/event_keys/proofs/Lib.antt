@@ -1,0 +1,4 @@
+pub mod BucketLaw
+pub mod ConjunctLemmas
+pub mod LoopLemmas
+pub mod TextLemmas

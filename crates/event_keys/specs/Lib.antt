@@ -1,0 +1,4 @@
+pub mod Buckets
+pub mod Cells
+pub mod Expressions
+pub mod Reading
