@@ -14,3 +14,6 @@ mod shift;
 
 pub use laws::buckets_are_right;
 pub use read_event::ReadEvent;
+
+#[cfg(test)]
+mod tests;

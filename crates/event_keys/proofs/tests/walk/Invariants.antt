@@ -1,0 +1,4 @@
+use Rattle.event_keys.proofs.tests.walk.Given as goal
+
+abbrev pub ghosts-shown : goal.ghosts-shown
+ghosts-shown g a = record { name = a.blank.name; parts = a.blank.parts }
