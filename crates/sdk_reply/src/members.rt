@@ -1,6 +1,6 @@
-ghost use Rattle.std.specs.Prelude.{◌≡◌, IfOk, IfSome, codes, option_map};
+ghost use Rattle.std.specs.Prelude.{◌≡◌, IfOk, IfSome, Some, codes, option_map};
 ghost use Rattle.json_text.specs.Nodes.{IsNodeOf, kind_of, value_at};
-ghost use Rattle.json_text.specs.Text.{member_of, text_of, unescaped};
+ghost use Rattle.json_text.specs.Text.{inside, member_of, text_of, unescaped};
 ghost use Rattle.json_text.specs.declared.kind.Kind.TheVariants as kind;
 ghost use Rattle.sdk_reply.specs.Operations.{as_hash, as_name, hash_in, name_in, option_of, option_or_name, slice_in, slice_or_null, text_in};
 
@@ -113,6 +113,34 @@ pub(crate) fn hash_in(tree: &Tree<'_>, node: Option<Node>) -> Result<Option<Step
 }
 
 fn hash_of(tree: &Tree<'_>, node: Node) -> Result<Option<StepHash>, Memory>
+    requires node { IsNodeOf tree.now node }
+    requires text { kind_of (value_at tree.now node) ≡ kind.Text }
+    ensures { IfOk result (λ hash. hash ≡ as_hash (text_of (value_at tree.now node))) }
+{
+    match hash_within(tree.slice(node)) {
+        Some(hash) => Ok(Some(hash)),
+        None => unescaped_hash(tree, node),
+    }
+}
+
+/// The name of a step that stands between quotes, with no digit escaped.
+fn hash_within(spelling: &[u8]) -> Option<StepHash>
+    ensures { IfSome result (λ hash. Some hash ≡ as_hash (unescaped spelling.now)) }
+{
+    as_hash(inside(spelling))
+}
+
+fn inside(spelling: &[u8]) -> &[u8]
+    ensures { result.now ≡ inside spelling.now }
+{
+    match spelling {
+        [_, inside @ .., _] => inside,
+        _ => &[],
+    }
+}
+
+#[inline(never)]
+fn unescaped_hash(tree: &Tree<'_>, node: Node) -> Result<Option<StepHash>, Memory>
     requires node { IsNodeOf tree.now node }
     requires text { kind_of (value_at tree.now node) ≡ kind.Text }
     ensures { IfOk result (λ hash. hash ≡ as_hash (text_of (value_at tree.now node))) }
