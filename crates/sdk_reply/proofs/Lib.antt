@@ -1,2 +1,5 @@
+mod Asked
+mod Digits
 mod Lists
+mod Newest
 mod Roots

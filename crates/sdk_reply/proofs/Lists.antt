@@ -1,11 +1,11 @@
 -- Operations that were read one after another, and those that are left.
-use Rattle.std.proofs.Common.{◌≡◌, ◌⊎◌, inl, inr, ℕ, List, [], ◌∷◌, ◌++◌, Option, Some, None, Result, Ok, Err, refl, sym, ap, ◌∙◌, append_assoc, append-nil}
+use Rattle.std.proofs.Common.{◌≡◌, ℕ, true, false, List, [], ◌∷◌, ◌++◌, Option, Some, None, Result, Ok, Err, refl, sym, ap, ◌∙◌, subst, append_assoc, append-nil}
 use Rattle.std.specs.List.{AllByRecursion}
 use Rattle.json_text.specs.Nodes.{Document, IsNodeOf, value_at}
 use Rattle.json_text.specs.Starts.{start_at}
 use Rattle.kinds.specs.declared.reply.Op.{Op}
 use Rattle.sdk_reply.specs.Operations.{op_of}
-use Rattle.sdk_reply.specs.Ops.{ops_at, with_ops}
+use Rattle.sdk_reply.specs.Ops.{IsAdded, ops_at, with_ops}
 use Rattle.sdk_reply.specs.declared.ops.OpsFault.{OpsFault}
 use Rattle.sdk_reply.specs.declared.ops.OpsFault.TheVariants.{NotValid}
 
@@ -52,3 +52,15 @@ reading-end d nodes ops reading =
     reading.read
     ∙ ap (λ r. followed ops r) (at-end d)
     ∙ ap (λ (all : List Op). Ok all) (append-nil ops)
+
+-- the same where the value's operation was added, or there was none
+pub reading-added : (d : Document) (nodes : List ℕ) (node : ℕ) (left : List ℕ) (ops more : List Op) (told : Option Op) → IsReading d nodes (node ∷ left) ops
+    → told ≡ op_of (value_at d node) → IsAdded ops told more true → IsReading d nodes left more
+reading-added d nodes node left ops more None reading is added = absurd (cc)
+reading-added d nodes node left ops more (Some op) reading is added =
+    subst (λ (o : List Op). IsReading d nodes left o) (sym added.1) (reading-more d nodes node left ops op reading is)
+
+pub reading-refused : (d : Document) (nodes : List ℕ) (node : ℕ) (left : List ℕ) (ops more : List Op) (told : Option Op) → IsReading d nodes (node ∷ left) ops
+    → told ≡ op_of (value_at d node) → IsAdded ops told more false → ops_at d nodes ≡ Err (NotValid (start_at d node))
+reading-refused d nodes node left ops more None reading is added = reading-fault d nodes node left ops reading is
+reading-refused d nodes node left ops more (Some op) reading is added = absurd (cc)

@@ -1,5 +1,5 @@
 -- The node of the whole value is the first, so that its items are those that the definition reads.
-use Rattle.std.proofs.Common.{◌≡◌, ℕ, Ok, Err, refl, ap, sym, ◌∙◌, arith, length, length-append, length-drop, drop, subst}
+use Rattle.std.proofs.Common.{◌≡◌, ℕ, refl, ap, sym, ◌∙◌, arith, length, length-append, length-drop}
 use Rattle.json_text.specs.Grammar.{Json, null, boolean, number, text, array, object}
 use Rattle.json_text.specs.Nodes.{Document, IsNodeOf, item_nodes, kind_of, nodes, value_at}
 use Rattle.json_text.specs.declared.kind.Kind.TheVariants as kind

@@ -1,5 +1,5 @@
 -- The operations of a list, or the first that isn't valid.
-use Rattle.std.specs.Prelude.{ℕ, List, [], ◌∷◌, Option, Some, None, Result, Ok, Err}
+use Rattle.std.specs.Prelude.{◌≡◌, ℕ, Bool, true, false, List, [], ◌∷◌, ◌++◌, Option, Some, None, Result, Ok, Err}
 use Rattle.json_text.specs.Nodes.{Document, value_at}
 use Rattle.json_text.specs.Starts.{start_at}
 use Rattle.kinds.specs.declared.reply.Op.{Op}
@@ -19,3 +19,8 @@ with_ops at (Some op) ops = before_ops op ops
 unfoldable pub ops_at : Document → List ℕ → Result (List Op) OpsFault
 ops_at d [] = Ok []
 ops_at d (node ∷ nodes) = with_ops (start_at d node) (op_of (value_at d node)) (ops_at d nodes)
+
+-- where there is an operation it stands behind the others, and the answer says whether there is one
+abbrev pub IsAdded : List Op → Option Op → List Op → Bool → Type 0
+IsAdded old None new valid = (valid ≡ false) × (new ≡ old)
+IsAdded old (Some op) new valid = (valid ≡ true) × (new ≡ old ++ op ∷ [])

@@ -7,6 +7,8 @@ mod after;
 mod condition;
 mod delays;
 mod members;
+mod op_members;
+mod op_word;
 mod operation;
 mod ops;
 mod outcome;

@@ -1,83 +1,182 @@
-ghost use Rattle.std.specs.Prelude.{◌≡◌, IfOk, codes};
+ghost use Rattle.std.specs.Prelude.{◌≡◌, IfOk, IfSome, option_map, true};
 ghost use Rattle.json_text.specs.Nodes.{IsNodeOf, value_at};
-ghost use Rattle.json_text.specs.Text.{member_of};
-ghost use Rattle.sdk_reply.specs.Operations.{invoke, invoke_function, invoke_within, op_named, op_of, op_with, sleep, wait_for, wait_for_event, wait_until, wait_where};
+ghost use Rattle.step_ids.specs.Step.{is_step_name};
+ghost use Rattle.sdk_reply.specs.Found.{AreThere, parts_at};
+ghost use Rattle.sdk_reply.specs.Ops.{IsAdded};
+ghost use Rattle.sdk_reply.specs.Operations.{invoke, invoke_function, invoke_within, op_by, op_from, op_of, op_with, run_of, sleep, wait_for, wait_for_event, wait_until, wait_where};
 
 use crate::condition::optional_condition;
 use crate::members::{
-    hash_in, member_of, name_in, option_of, option_or_name, slice_in, slice_or_null, text_in,
+    hash_in, name_in, option_of, option_or_name, plain_name, slice_in, slice_or_null, step_hash,
+    text_in,
 };
+use crate::op_members::OpMembers;
+use crate::op_word::{OpWord, word_in};
 use crate::part::Part;
 use crate::times::{optional_time, time_in};
 use expr::Expr;
 use json_text::{Node, Tree};
 use kinds::{Op, StepHash, Time};
-use lists::{Bytes, Memory};
+use lists::{Bytes, Items, Memory};
 use std::alloc::Global;
 
-/// The operation that a value is: an object with a step's name as `id` and the parts that its `op` asks
-/// for. None where it isn't valid.
-#[tactic(auto, unfolding(crate::specs::Operations::op_of))]
-pub(crate) fn read_operation(
+/// Adds the operation that a value is: an object with a step's name as `id` and the parts that its `op`
+/// asks for. False where it isn't valid.
+pub(crate) fn push_operation(
+    ops: &mut Items<Op>,
     alloc: Global,
     tree: &Tree<'_>,
     node: Node,
-) -> Result<Option<Op>, Memory>
+) -> Result<bool, Memory>
     requires { IsNodeOf tree.now node }
-    ensures { IfOk result (λ op. op ≡ op_of (value_at tree.now node)) }
+    ensures { IfOk result (IsAdded ops.old (op_of (value_at tree.now node)) ops.new) }
 {
-    match hash_in(tree, member_of(tree, node, b"id"))? {
-        Some(hash) => op_with(alloc, tree, node, hash),
+    let members = OpMembers::of(tree, node);
+    push_members(ops, alloc, tree, &members)
+}
+
+/// Adds the operation that has these members.
+fn push_members(
+    ops: &mut Items<Op>,
+    alloc: Global,
+    tree: &Tree<'_>,
+    members: &OpMembers,
+) -> Result<bool, Memory>
+    requires { AreThere tree.now members.now }
+    ensures { IfOk result (IsAdded ops.old (op_from (parts_at tree.now members.now)) ops.new) }
+{
+    match plain_name(tree, members.id) {
+        Some(name) => push_named(ops, alloc, tree, members, name),
+        None => push_read(ops, read_operation(alloc, tree, members)?),
+    }
+}
+
+fn push_named(
+    ops: &mut Items<Op>,
+    alloc: Global,
+    tree: &Tree<'_>,
+    members: &OpMembers,
+    name: &[u8],
+) -> Result<bool, Memory>
+    requires members { AreThere tree.now members.now }
+    requires name { is_step_name name.now ≡ true }
+    ensures { IfOk result (IsAdded ops.old (op_with (parts_at tree.now members.now) name.now) ops.new) }
+{
+    match members.op {
+        Some(op) => push_word(ops, alloc, tree, members, name, word_in(tree, op)?),
+        None => Ok(false),
+    }
+}
+
+fn push_word(
+    ops: &mut Items<Op>,
+    alloc: Global,
+    tree: &Tree<'_>,
+    members: &OpMembers,
+    name: &[u8],
+    word: OpWord,
+) -> Result<bool, Memory>
+    requires members { AreThere tree.now members.now }
+    requires name { is_step_name name.now ≡ true }
+    ensures { IfOk result (IsAdded ops.old (op_by word name.now (parts_at tree.now members.now)) ops.new) }
+{
+    match word {
+        OpWord::Ran => push_run(ops, alloc, tree, members.data, name),
+        word => push_read(ops, op_by(alloc, tree, members, step_hash(name), word)?),
+    }
+}
+
+fn push_run(
+    ops: &mut Items<Op>,
+    alloc: Global,
+    tree: &Tree<'_>,
+    output: Option<Node>,
+    name: &[u8],
+) -> Result<bool, Memory>
+    requires output { IfSome output (IsNodeOf tree.now) }
+    requires name { is_step_name name.now ≡ true }
+    ensures { IfOk result (IsAdded ops.old (run_of name.now (option_map (value_at tree.now) output)) ops.new) }
+{
+    let value = slice_or_null(alloc, tree, output)?;
+    let hash = step_hash(name);
+    ops.push(Op::StepRun { hash, value })?;
+    Ok(true)
+}
+
+#[inline(never)]
+fn push_read(ops: &mut Items<Op>, op: Option<Op>) -> Result<bool, Memory>
+    ensures { IfOk result (IsAdded ops.old op ops.new) }
+{
+    match op {
+        Some(op) => {
+            ops.push(op)?;
+            Ok(true)
+        }
+        None => Ok(false),
+    }
+}
+
+/// The operation that has these members. None where it isn't valid.
+#[inline(never)]
+fn read_operation(alloc: Global, tree: &Tree<'_>, members: &OpMembers) -> Result<Option<Op>, Memory>
+    requires { AreThere tree.now members.now }
+    ensures { IfOk result (λ op. op ≡ op_from (parts_at tree.now members.now)) }
+{
+    match hash_in(tree, members.id)? {
+        Some(hash) => op_with(alloc, tree, members, hash),
         None => Ok(None),
     }
 }
 
-fn op_with(alloc: Global, tree: &Tree<'_>, node: Node, hash: StepHash) -> Result<Option<Op>, Memory>
-    requires { IsNodeOf tree.now node }
-    ensures { IfOk result (λ op. op ≡ op_with (value_at tree.now node) hash) }
-{
-    match member_of(tree, node, b"op") {
-        Some(op) => op_named(alloc, tree, node, hash, op),
-        None => Ok(None),
-    }
-}
-
-fn op_named(
+fn op_with(
     alloc: Global,
     tree: &Tree<'_>,
-    node: Node,
+    members: &OpMembers,
     hash: StepHash,
-    op: Node,
 ) -> Result<Option<Op>, Memory>
-    requires node { IsNodeOf tree.now node }
-    requires op { IsNodeOf tree.now op }
-    ensures { IfOk result (λ told. told ≡ op_named hash (value_at tree.now node) (value_at tree.now op)) }
+    requires { AreThere tree.now members.now }
+    ensures { IfOk result (λ op. op ≡ op_with (parts_at tree.now members.now) hash) }
 {
-    if tree.is_text(op, b"StepRun") {
-        let value = slice_or_null(alloc, tree, member_of(tree, node, b"data"))?;
-        Ok(Some(Op::StepRun { hash, value }))
-    } else if tree.is_text(op, b"StepError") {
-        let error = slice_or_null(alloc, tree, member_of(tree, node, b"error"))?;
-        Ok(Some(Op::StepError { hash, error }))
-    } else if tree.is_text(op, b"StepPlanned") {
-        Ok(Some(Op::StepPlanned { hash }))
-    } else if tree.is_text(op, b"Sleep") {
-        sleep(tree, node, hash)
-    } else if tree.is_text(op, b"WaitForEvent") {
-        wait_for_event(alloc, tree, node, hash)
-    } else if tree.is_text(op, b"InvokeFunction") {
-        invoke_function(alloc, tree, node, hash)
-    } else {
-        Ok(None)
+    match members.op {
+        Some(op) => op_by(alloc, tree, members, hash, word_in(tree, op)?),
+        None => Ok(None),
     }
 }
 
 #[inline(never)]
-fn sleep(tree: &Tree<'_>, node: Node, hash: StepHash) -> Result<Option<Op>, Memory>
-    requires { IsNodeOf tree.now node }
-    ensures { IfOk result (λ op. op ≡ sleep hash (value_at tree.now node)) }
+fn op_by(
+    alloc: Global,
+    tree: &Tree<'_>,
+    members: &OpMembers,
+    hash: StepHash,
+    word: OpWord,
+) -> Result<Option<Op>, Memory>
+    requires { AreThere tree.now members.now }
+    ensures { IfOk result (λ op. op ≡ op_by word hash (parts_at tree.now members.now)) }
 {
-    match time_in(tree, option_or_name(tree, node, b"duration"))? {
+    match word {
+        OpWord::Ran => Ok(Some(Op::StepRun {
+            hash,
+            value: slice_or_null(alloc, tree, members.data)?,
+        })),
+        OpWord::Failed => Ok(Some(Op::StepError {
+            hash,
+            error: slice_or_null(alloc, tree, members.error)?,
+        })),
+        OpWord::Planned => Ok(Some(Op::StepPlanned { hash })),
+        OpWord::Sleeps => sleep(tree, members, hash),
+        OpWord::Waits => wait_for_event(alloc, tree, members, hash),
+        OpWord::Invokes => invoke_function(alloc, tree, members, hash),
+        OpWord::Unknown => Ok(None),
+    }
+}
+
+#[inline(never)]
+fn sleep(tree: &Tree<'_>, members: &OpMembers, hash: StepHash) -> Result<Option<Op>, Memory>
+    requires { AreThere tree.now members.now }
+    ensures { IfOk result (λ op. op ≡ sleep hash (parts_at tree.now members.now)) }
+{
+    match time_in(tree, option_or_name(tree, members, b"duration"))? {
         Some(time) => Ok(Some(Op::Sleep { hash, time })),
         None => Ok(None),
     }
@@ -87,14 +186,14 @@ fn sleep(tree: &Tree<'_>, node: Node, hash: StepHash) -> Result<Option<Op>, Memo
 fn wait_for_event(
     alloc: Global,
     tree: &Tree<'_>,
-    node: Node,
+    members: &OpMembers,
     hash: StepHash,
 ) -> Result<Option<Op>, Memory>
-    requires { IsNodeOf tree.now node }
-    ensures { IfOk result (λ op. op ≡ wait_for_event hash (value_at tree.now node)) }
+    requires { AreThere tree.now members.now }
+    ensures { IfOk result (λ op. op ≡ wait_for_event hash (parts_at tree.now members.now)) }
 {
-    match name_in(tree, option_or_name(tree, node, b"event"))? {
-        Some(event) => wait_for(alloc, tree, node, hash, event),
+    match name_in(tree, option_or_name(tree, members, b"event"))? {
+        Some(event) => wait_for(alloc, tree, members, hash, event),
         None => Ok(None),
     }
 }
@@ -102,15 +201,15 @@ fn wait_for_event(
 fn wait_for(
     alloc: Global,
     tree: &Tree<'_>,
-    node: Node,
+    members: &OpMembers,
     hash: StepHash,
     event: Bytes,
 ) -> Result<Option<Op>, Memory>
-    requires { IsNodeOf tree.now node }
-    ensures { IfOk result (λ op. op ≡ wait_for hash (value_at tree.now node) event) }
+    requires { AreThere tree.now members.now }
+    ensures { IfOk result (λ op. op ≡ wait_for hash (option_map (value_at tree.now) members.now.opts) event) }
 {
-    match time_in(tree, option_of(tree, node, b"timeout"))? {
-        Some(timeout) => wait_until(alloc, tree, node, hash, event, timeout),
+    match time_in(tree, option_of(tree, members.opts, b"timeout"))? {
+        Some(timeout) => wait_until(alloc, tree, members, hash, event, timeout),
         None => Ok(None),
     }
 }
@@ -118,15 +217,15 @@ fn wait_for(
 fn wait_until(
     alloc: Global,
     tree: &Tree<'_>,
-    node: Node,
+    members: &OpMembers,
     hash: StepHash,
     event: Bytes,
     timeout: Time,
 ) -> Result<Option<Op>, Memory>
-    requires { IsNodeOf tree.now node }
-    ensures { IfOk result (λ op. op ≡ wait_until hash (value_at tree.now node) event timeout) }
+    requires { AreThere tree.now members.now }
+    ensures { IfOk result (λ op. op ≡ wait_until hash (option_map (value_at tree.now) members.now.opts) event timeout) }
 {
-    let condition = optional_condition(alloc, tree, option_of(tree, node, b"if"))?;
+    let condition = optional_condition(alloc, tree, option_of(tree, members.opts, b"if"))?;
     Ok(wait_where(hash, event, timeout, condition))
 }
 
@@ -150,14 +249,14 @@ fn wait_where(hash: StepHash, event: Bytes, timeout: Time, condition: Part<Expr>
 fn invoke_function(
     alloc: Global,
     tree: &Tree<'_>,
-    node: Node,
+    members: &OpMembers,
     hash: StepHash,
 ) -> Result<Option<Op>, Memory>
-    requires { IsNodeOf tree.now node }
-    ensures { IfOk result (λ op. op ≡ invoke_function hash (value_at tree.now node)) }
+    requires { AreThere tree.now members.now }
+    ensures { IfOk result (λ op. op ≡ invoke_function hash (option_map (value_at tree.now) members.now.opts)) }
 {
-    match text_in(tree, option_of(tree, node, b"function_id"))? {
-        Some(function) => invoke(alloc, tree, node, hash, function),
+    match text_in(tree, option_of(tree, members.opts, b"function_id"))? {
+        Some(function) => invoke(alloc, tree, members, hash, function),
         None => Ok(None),
     }
 }
@@ -165,15 +264,15 @@ fn invoke_function(
 fn invoke(
     alloc: Global,
     tree: &Tree<'_>,
-    node: Node,
+    members: &OpMembers,
     hash: StepHash,
     function: Bytes,
 ) -> Result<Option<Op>, Memory>
-    requires { IsNodeOf tree.now node }
-    ensures { IfOk result (λ op. op ≡ invoke hash (value_at tree.now node) function) }
+    requires { AreThere tree.now members.now }
+    ensures { IfOk result (λ op. op ≡ invoke hash (option_map (value_at tree.now) members.now.opts) function) }
 {
-    let payload = slice_in(alloc, tree, option_of(tree, node, b"payload"))?;
-    let timeout = optional_time(tree, option_of(tree, node, b"timeout"))?;
+    let payload = slice_in(alloc, tree, option_of(tree, members.opts, b"payload"))?;
+    let timeout = optional_time(tree, option_of(tree, members.opts, b"timeout"))?;
     Ok(invoke_within(hash, function, payload, timeout))
 }
 

@@ -4,7 +4,7 @@ ghost use Rattle.json_text.specs.Nodes.{IsNodeOf, item_nodes};
 ghost use Rattle.sdk_reply.specs.Ops.{ops_at};
 ghost use Rattle.sdk_reply.specs.declared.ops.OpsFault.TheVariants as fault;
 
-use crate::operation::read_operation;
+use crate::operation::push_operation;
 use json_text::{Node, Tree};
 use kinds::Op;
 use lists::{Items, Memory};
@@ -37,12 +37,11 @@ pub(crate) fn read_ops(alloc: Global, tree: &Tree<'_>, list: Node) -> Result<Ite
 {
     let mut ops = Items::new(alloc);
     for node in tree.items(list) {
-        let Some(op) = read_operation(alloc, tree, node)? else {
+        if !push_operation(&mut ops, alloc, tree, node)? {
             return Err(OpsFault::NotValid {
                 at: tree.start(node) as u64,
             });
-        };
-        ops.push(op)?;
+        }
     }
     Ok(ops)
 }

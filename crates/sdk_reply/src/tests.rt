@@ -210,6 +210,14 @@ fn steps(rt: HostRuntime) -> Result<(), Fail> {
                 ",\"op\":\"StepRun\",\"id\":\"\\u00619993e364706816aba3e25717850c26c9cd0d89d\"",
                 "ops run null",
             ),
+            (
+                ",\"data\":1,\"\\u006fp\":\"StepRun\",\"d\\u0061ta\":2",
+                "ops run 2",
+            ),
+            (
+                ",\"\\u006f\":1,\"op\":\"Sleep\",\"opt\\u0073\":{\"dur\\u0061tion\":\"1s\"}",
+                "ops sleep in 1000",
+            ),
         ],
     )
 }

@@ -1,4 +1,5 @@
 ghost use Rattle.std.specs.Prelude.{◌≡◌, true};
+ghost use Rattle.std.specs.List.{list_all};
 ghost use Rattle.sha1.specs.Sha1.{sha1};
 ghost use Rattle.step_ids.specs.Step.{hashed_text, step_name, is_lower_digit, is_step_name};
 
@@ -33,7 +34,18 @@ fn digest(id: &[u8], use_number: u64) -> [u8; 20]
 pub fn is_step_hash(text: &[u8]) -> bool
     ensures { result ≡ is_step_name text.now }
 {
-    text.len() == 40 && text.iter().all(|byte| is_lower_hex(*byte))
+    text.len() == 40 && are_lower_hex(text)
+}
+
+// Goes through all bytes, whatever they are, so that many are tested at once.
+fn are_lower_hex(text: &[u8]) -> bool
+    ensures { result ≡ list_all is_lower_digit text.now }
+{
+    let mut all = true;
+    for byte in text {
+        all &= is_lower_hex(*byte);
+    }
+    all
 }
 
 fn is_lower_hex(byte: u8) -> bool

@@ -1,4 +1,4 @@
-use Rattle.std.proofs.Common.{rules, ◌≡◌, ◌⊎◌, inl, inr, ◌∙◌, sym, ap, subst, IfOk, Result, Ok, Err, List}
+use Rattle.std.proofs.Common.{rules, ◌≡◌, ◌⊎◌, inl, inr, ◌∙◌, sym, ap, subst, IfOk, Result, Err, List}
 use Rattle.json_text.specs.Nodes.{item_nodes, kind_of, value_at}
 use Rattle.json_text.specs.declared.kind.Kind.TheVariants as kind
 use Rattle.kinds.specs.declared.reply.After.{After}
@@ -8,7 +8,7 @@ use Rattle.kinds.specs.declared.reply.Outcome.TheVariants.{Ops}
 use Rattle.kinds.specs.declared.reply.ReplyIn.{ReplyIn}
 use Rattle.std.specs.Prelude.{Bool, ℕ}
 use Rattle.sdk_reply.specs.Ops.{ops_at}
-use Rattle.sdk_reply.specs.Outcome.{ops_from, ops_in, says_no_retry, unreadable}
+use Rattle.sdk_reply.specs.Outcome.{ops_from, says_no_retry, unreadable}
 use Rattle.sdk_reply.specs.declared.ops.OpsFault.{OpsFault}
 use Rattle.sdk_reply.specs.declared.ops.OpsFault.TheVariants as fault
 use Rattle.sdk_reply.proofs.Roots.{ops-in-root}

@@ -1,0 +1,126 @@
+ghost use Rattle.std.specs.Prelude.{◌≡◌, IfSome};
+ghost use Rattle.json_text.specs.Nodes.{IsNodeOf, value_at};
+ghost use Rattle.json_text.specs.Plain.{is_no_escape, is_plain};
+ghost use Rattle.sdk_reply.specs.Found.{AreMembers, is_asked, newer, with_member};
+
+use crate::members::{inside, member_of};
+use json_text::{Node, Tree};
+
+/// The members of an operation that its step and its kind are read of, each the last of its name.
+#[derive(Clone, Copy)]
+pub(crate) struct OpMembers {
+    pub(crate) id: Option<Node>,
+    pub(crate) op: Option<Node>,
+    pub(crate) data: Option<Node>,
+    pub(crate) error: Option<Node>,
+    pub(crate) opts: Option<Node>,
+    pub(crate) name: Option<Node>,
+}
+
+impl OpMembers {
+    ghost use Rattle.std.specs.Prelude.{◌≡◌, IfSome};
+    ghost use Rattle.json_text.specs.Nodes.{IsNodeOf, value_at};
+    ghost use Rattle.sdk_reply.specs.Found.{AreMembers, with_member};
+
+    /// Of the operation at a node, in one pass where no name has an escape.
+    pub(crate) fn of(tree: &Tree<'_>, node: Node) -> Self
+        requires { IsNodeOf tree.now node }
+        ensures { AreMembers tree.now (value_at tree.now node) result }
+    {
+        match OpMembers::plain(tree, node) {
+            Some(members) => members,
+            None => OpMembers::looked_up(tree, node),
+        }
+    }
+
+    /// The same, where no name has an escape.
+    fn plain(tree: &Tree<'_>, node: Node) -> Option<Self>
+        requires { IsNodeOf tree.now node }
+        ensures { IfSome result (AreMembers tree.now (value_at tree.now node)) }
+    {
+        let mut members = OpMembers {
+            id: None,
+            op: None,
+            data: None,
+            error: None,
+            opts: None,
+            name: None,
+        };
+        for (name, value) in tree.members(node) {
+            let text = inside(tree.slice(name));
+            if !is_plain_name(text) {
+                return None;
+            }
+            members = members.with(text, value);
+        }
+        Some(members)
+    }
+
+    /// The same, one name at a time.
+    #[inline(never)]
+    fn looked_up(tree: &Tree<'_>, node: Node) -> Self
+        requires { IsNodeOf tree.now node }
+        ensures { AreMembers tree.now (value_at tree.now node) result }
+    {
+        OpMembers {
+            id: member_of(tree, node, b"id"),
+            op: member_of(tree, node, b"op"),
+            data: member_of(tree, node, b"data"),
+            error: member_of(tree, node, b"error"),
+            opts: member_of(tree, node, b"opts"),
+            name: member_of(tree, node, b"name"),
+        }
+    }
+
+    /// With one more member behind the others.
+    fn with(self, name: &[u8], value: Node) -> Self
+        ensures { result ≡ with_member self name.now value }
+    {
+        OpMembers {
+            id: newer(name == b"id".as_slice(), value, self.id),
+            op: newer(name == b"op".as_slice(), value, self.op),
+            data: newer(name == b"data".as_slice(), value, self.data),
+            error: newer(name == b"error".as_slice(), value, self.error),
+            opts: newer(name == b"opts".as_slice(), value, self.opts),
+            name: newer(name == b"name".as_slice(), value, self.name),
+        }
+    }
+}
+
+/// A later member of a name takes the place of an earlier one.
+fn newer(named: bool, value: Node, found: Option<Node>) -> Option<Node>
+    ensures { result ≡ newer named value found }
+{
+    if named { Some(value) } else { found }
+}
+
+/// Whether a name has no escape: one that is read has none, so that only the others are searched.
+fn is_plain_name(name: &[u8]) -> bool
+    ensures { result ≡ is_plain name.now }
+{
+    if is_asked(name) { true } else { is_plain(name) }
+}
+
+fn is_asked(name: &[u8]) -> bool
+    ensures { result ≡ is_asked name.now }
+{
+    name == b"id".as_slice()
+        || name == b"op".as_slice()
+        || name == b"data".as_slice()
+        || name == b"error".as_slice()
+        || name == b"opts".as_slice()
+        || name == b"name".as_slice()
+}
+
+/// Whether a string stands for itself between its quotes.
+fn is_plain(text: &[u8]) -> bool
+    ensures { result ≡ is_plain text.now }
+{
+    text.iter().all(|byte| is_no_escape(*byte))
+}
+
+fn is_no_escape(byte: u8) -> bool
+    ensures { result ≡ is_no_escape byte }
+{
+    byte != b'\\'
+}
