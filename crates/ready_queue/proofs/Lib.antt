@@ -1,3 +1,4 @@
+pub mod AheadLemmas
 pub mod FrontLemmas
 pub mod HeadLemmas
 pub mod IndexLemmas
@@ -7,6 +8,7 @@ pub mod Pigeons
 pub mod PoolLemmas
 pub mod RankLemmas
 pub mod ReadyLemmas
+pub mod Rows
 pub mod RunLemmas
 pub mod ScanLemmas
 pub mod Shut

@@ -208,7 +208,7 @@ places_woken_till m gs old new full later less h fewer found woken loses k p = b
 
 -- ---- what is parked can't be open
 
-full_any : (issues : List IssueEntry) (c : Cell) (ls : List CellLimit) → list_any (λ (l : CellLimit). is_cell c l.cell && is_full issues l) ls ≡ true → list_any (is_full issues) ls ≡ true
+pub full_any : (issues : List IssueEntry) (c : Cell) (ls : List CellLimit) → list_any (λ (l : CellLimit). is_cell c l.cell && is_full issues l) ls ≡ true → list_any (is_full issues) ls ≡ true
 full_any issues c [] h = h
 full_any issues c (l ∷ ls) h = by_tests (is_cell c l.cell) (is_full issues l) h (full_any issues c ls)
   where

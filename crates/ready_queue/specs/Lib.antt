@@ -1,4 +1,6 @@
+pub mod Ahead
 pub mod Different
+pub mod Front
 pub mod Heads
 pub mod Held
 pub mod Keys

@@ -1,4 +1,4 @@
-ghost use Rattle.std.specs.Prelude.{◌≡◌, [], OnOk, OnErr, Some, None};
+ghost use Rattle.std.specs.Prelude.{◌≡◌, [], length, OnOk, OnErr, Some, None};
 ghost use Rattle.std.specs.BTreeMap.{insert_entry, is_at};
 ghost use Rattle.std.specs.Map.{remove_entry};
 ghost use Rattle.std.specs.Ordering.{nat_cmp};
@@ -77,6 +77,13 @@ impl Fronts {
         ensures { result ≡ place_at group self.now }
     {
         self.places.get(&group).copied()
+    }
+
+    /// How many groups have a place.
+    pub(crate) fn len(&self) -> usize
+        ensures { result ≡ length self.now }
+    {
+        self.places.len()
     }
 
     /// Gives a group a place, instead of the one that it has.

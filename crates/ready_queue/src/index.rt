@@ -1,7 +1,9 @@
-ghost use Rattle.std.specs.Prelude.{◌≡◌, ◌+◌, ◌≤◌, ℕ, List, ◌⊎◌, [], true, false, None, OnOk, OnErr};
+ghost use Rattle.std.specs.Prelude.{◌≡◌, ◌+◌, ◌≤◌, ℕ, List, ◌⊎◌, [], length, true, false, None, OnOk, OnErr, IfSome};
+ghost use Rattle.std.specs.Option.{IfNone};
 ghost use Rattle.std.specs.Bool.{OnTrue, OnFalse};
 ghost use Rattle.kinds.specs.Cells.{last_moment};
 ghost use Rattle.ready_queue.specs.Different.{HasGroups, different};
+ghost use Rattle.ready_queue.specs.Front.{IsFrontAt};
 ghost use Rattle.ready_queue.specs.Keys.{has, Changes, IsLeastOpen, AreAlike};
 ghost use Rattle.ready_queue.specs.Opens.{opens, HaveStarts};
 ghost use Rattle.ready_queue.specs.Places.{place_at, lowered, IsRaised, IsRestored, IsParkedAt, ParksNone, ParksOne, AreShut};
@@ -186,21 +188,33 @@ impl Index {
         Ok(())
     }
 
+    /// The number of the least key of a group.
+    pub(crate) fn head(&self, group: u64) -> Option<u64>
+        ensures some { IfSome result (λ n. (s : ℕ) × (has self.now.keys group s n ≡ true)) }
+        ensures none { IfNone result ((s n : ℕ) → has self.now.keys group s n ≡ false) }
+    {
+        let Some(least) = head(&self.keys, group) else {
+            return None;
+        };
+        Some(least.1)
+    }
+
     /// The number of the first item of the first group that has a place.
-    pub(crate) fn front(&self) -> Option<u64> {
+    pub(crate) fn front(&self) -> Option<u64>
+        ensures some { IfSome result (IsFrontAt self.now) }
+        ensures none { IfNone result ((g : ℕ) → place_at g self.now.places ≡ None) }
+    {
         let Some(first) = self.fronts.order().first() else {
             return None;
         };
-        let (_, _, group) = *first;
-        let Some((_, number)) = head(&self.keys, group) else {
-            return None;
-        };
-        Some(number)
+        self.head(first.2)
     }
 
     /// How many groups aren't parked.
-    pub(crate) fn open_groups(&self) -> usize {
-        self.fronts.order().len()
+    pub(crate) fn open_groups(&self) -> usize
+        ensures { result ≡ length self.now.places }
+    {
+        self.fronts.len()
     }
 
     /// The least key for whose item the gate is open. Looks once at each group that isn't parked.

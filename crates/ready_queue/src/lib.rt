@@ -4,6 +4,7 @@
 #![tactic(auto)]
 
 mod admission;
+mod ahead;
 mod entries;
 mod fronts;
 mod gate;

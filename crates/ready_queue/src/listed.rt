@@ -1,13 +1,15 @@
-ghost use Rattle.std.specs.Prelude.{◌≡◌, ◌⊎◌, ◌+◌, ◌≤◌, [], find, None, OnOk, OnErr, IfSome};
-ghost use Rattle.std.specs.Option.{IfNone};
+ghost use Rattle.std.specs.Prelude.{◌≡◌, ◌⊎◌, ◌+◌, ◌≤◌, [], length, find, None, OnOk, OnErr, IfSome};
+ghost use Rattle.std.specs.Option.{option_copied, IfNone};
 ghost use Rattle.kinds.specs.Cells.{IsStart, last_moment};
 ghost use Rattle.kinds.specs.Queue.{has_number, has_run, number_of, without_number, without_run, insert_item, least_admissible, groups_of, next_item};
 ghost use Rattle.ordered.specs.Indexes.{IsTakenOf};
+ghost use Rattle.ready_queue.specs.Ahead.{IsSettled, IsItemOf};
+ghost use Rattle.ready_queue.specs.Front.{IsFront, AllParked};
 ghost use Rattle.ready_queue.specs.Held.{Group, IsParked, AreFewer, AreOneMore, AreClosed};
 ghost use Rattle.ready_queue.specs.Runs.{run_of};
 
 use crate::item::Group;
-use crate::pool::Pool;
+use crate::pool::{Ahead, Pool};
 use crate::{Entries, Gate};
 use concurrency_keys::ConcurrencyKeys;
 use kinds::{Item, Steps};
@@ -156,16 +158,42 @@ impl Listed {
         Ok(())
     }
 
+    /// What is ahead, where the groups have what is due at the moment and nothing else, and all are parked.
+    pub(crate) fn ahead(&self, t: u64) -> Option<Ahead>
+        ensures { IfSome result (λ a. IsSettled self.now.items self.now.ready t a.due) }
+    {
+        self.pool.ahead(t)
+    }
+
+    /// The first item of a group.
+    pub(crate) fn first_of(&self, group: &Group) -> Option<&Item>
+        ensures some { IfSome result (λ i. IsItemOf self.now.items self.now.ready group.now i.now) }
+        ensures none { IfNone result (IsParked self.now.ready group.now → ⊥) }
+    {
+        self.pool.first_of(group)
+    }
+
     /// The first item of the first group that isn't parked.
     pub(crate) fn front(&self) -> Option<&Item>
-        ensures { IfSome result (λ i. IsStart i.now.start) }
+        ensures some { IfSome result (λ i. IsFront self.now.items self.now.ready i.now) }
+        ensures start { IfSome result (λ i. IsStart i.now.start) }
+        ensures none { IfNone result (AllParked self.now.ready) }
     {
         self.pool.front()
     }
 
     /// How many groups aren't parked.
-    pub(crate) fn open_groups(&self) -> usize {
+    pub(crate) fn open_groups(&self) -> usize
+        ensures { result ≡ length self.now.ready.places }
+    {
         self.pool.open_groups()
+    }
+
+    /// The item of a number.
+    pub(crate) fn get(&self, number: u64) -> Option<&Item>
+        ensures { option_copied result ≡ find (has_number number) self.now.items }
+    {
+        self.pool.get(number)
     }
 
     /// The items by reference, in order of number.

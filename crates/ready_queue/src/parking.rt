@@ -9,6 +9,7 @@ ghost use Rattle.ready_queue.specs.Held.{Group};
 ghost use Rattle.ready_queue.specs.Parking.{IsShut, IsHeldTill, ParksFewer, AreLookedAt, AreToCome, Loses};
 ghost use Rattle.ready_queue.specs.Parking.{at_moment, IsFirst};
 
+use crate::ahead::least_parked;
 use crate::item::{Group, copy_of, group_of};
 use crate::listed::Listed;
 use crate::lot::{put_at, put_till, unpark_all};
@@ -281,17 +282,13 @@ impl ParkingQueue {
         }
     }
 
-    fn open_groups(&self) -> usize {
-        self.listed.open_groups()
-    }
-
     // Parks the groups that can't be open, up to the first that can.
     fn park_closed(&mut self, t: u64, cells: &ConcurrencyKeys, throttle: &Starts)
         requires { IsShut self.old cells.now throttle.now t }
         ensures items { self.new.items ≡ self.old.items }
         ensures shut { IsShut self.new cells.now throttle.now t }
     {
-        for _ in 0..self.open_groups() {
+        for _ in 0..self.listed.open_groups() {
             if !self.park_first(t, cells, throttle) {
                 return;
             }
@@ -336,12 +333,26 @@ impl ParkingQueue {
     }
 
     /// The least of the dues past a moment, and of the releases of starts that due items wait for whose cells
-    /// are free. Takes no memory.
+    /// are free. Takes no memory. After `pass` and a `settle_next` of this moment that found nothing, it looks at
+    /// the first due to come, and at the groups that are parked till moments before its answer; else at all items.
     pub fn next(&self, t: u64, cells: &ConcurrencyKeys, throttle: &Starts) -> Option<u64>
-        requires { t ≤ last_moment }
+        requires moment { t ≤ last_moment }
+        requires shut { IsShut self.now cells.now throttle.now t }
         ensures { result ≡ next_item cells.now throttle.now t self.now.items }
     {
-        self.listed.next(t, cells, throttle)
+        match self.listed.ahead(t) {
+            Some(ahead) => {
+                least_parked(&self.listed, &self.later, t, cells, throttle, ahead.due)
+            }
+            None => self.listed.next(t, cells, throttle),
+        }
+    }
+
+    /// The item of a number.
+    pub fn get(&self, number: u64) -> Option<&Item>
+        ensures { option_copied result ≡ find (has_number number) self.now.items }
+    {
+        self.listed.get(number)
     }
 
     /// The items by reference, in order of number.

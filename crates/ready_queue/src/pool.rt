@@ -1,7 +1,10 @@
 ghost use Rattle.std.specs.Prelude.{◌≡◌, ◌⊎◌, ◌+◌, ◌≤◌, ◌<◌, IfSome, [], length, find, None, OnOk, OnErr, IfOk, true, false};
 ghost use Rattle.std.specs.Bool.{OnTrue, OnFalse};
+ghost use Rattle.std.specs.Option.{option_copied, IfNone};
 ghost use Rattle.kinds.specs.Cells.{IsStart, last_moment};
 ghost use Rattle.kinds.specs.Queue.{has_number, without_number, insert_item, least_admissible, groups_of, group_of, next_item};
+ghost use Rattle.ready_queue.specs.Ahead.{IsSettled, IsFirstDue, IsItemOf};
+ghost use Rattle.ready_queue.specs.Front.{IsFront, AllParked};
 ghost use Rattle.ready_queue.specs.Heads.{second};
 ghost use Rattle.ready_queue.specs.Held.{Group, holds, Goes, IsParked, AreFewer, AreOneMore, AreClosed};
 ghost use Rattle.ready_queue.specs.Pool.{NoneDue};
@@ -40,6 +43,13 @@ impl Model for Pool {
     ghost view = { λ p. record { items = p.store; ready = p.ready; waiting = p.waiting.keys; horizon = p.horizon; clear = p.clear } };
 
     ghost invariant = { λ p. IsPool p.store (holds p.ready.held) p.waiting.keys p.horizon p.clear };
+}
+
+/// The next moment is the first due to come, or one of a group that is parked.
+#[derive(Clone, Copy)]
+pub(crate) struct Ahead {
+    /// The first due to come, in milliseconds since 1970.
+    pub(crate) due: Option<u64>,
 }
 
 /// Takes an item out of its group, and gives it back.
@@ -266,18 +276,64 @@ impl Pool {
         Ok(())
     }
 
+    /// What is ahead, where the groups have what is due at the moment and nothing else, and all are parked.
+    pub(crate) fn ahead(&self, t: u64) -> Option<Ahead>
+        ensures { IfSome result (λ a. IsSettled self.now.items self.now.ready t a.due) }
+    {
+        if self.horizon != t {
+            return None;
+        }
+        if self.clear != t {
+            return None;
+        }
+        if self.ready.open_groups() > 0 {
+            return None;
+        }
+        let _items = self.store.map();
+        Some(Ahead {
+            due: self.first_due(),
+        })
+    }
+
+    // The first of the dues of the items that aren't in groups.
+    fn first_due(&self) -> Option<u64>
+        ensures { IsFirstDue self.now.waiting result }
+    {
+        let Some(first) = self.waiting.first() else {
+            return None;
+        };
+        Some(first.0)
+    }
+
+    /// The first item of a group.
+    pub(crate) fn first_of(&self, group: &Group) -> Option<&Item>
+        ensures some { IfSome result (λ i. IsItemOf self.now.items self.now.ready group.now i.now) }
+        ensures none { IfNone result (IsParked self.now.ready group.now → ⊥) }
+    {
+        let Some(number) = self.ready.head(group) else {
+            return None;
+        };
+        let item = self.store.item(number)?;
+        Some(item)
+    }
+
     /// The first item of the first group that isn't parked.
     pub(crate) fn front(&self) -> Option<&Item>
-        ensures { IfSome result (λ i. IsStart i.now.start) }
+        ensures some { IfSome result (λ i. IsFront self.now.items self.now.ready i.now) }
+        ensures start { IfSome result (λ i. IsStart i.now.start) }
+        ensures none { IfNone result (AllParked self.now.ready) }
     {
         let Some(number) = self.ready.front() else {
             return None;
         };
-        self.store.at(number)
+        let item = self.store.item(number)?;
+        Some(item)
     }
 
     /// How many groups aren't parked.
-    pub(crate) fn open_groups(&self) -> usize {
+    pub(crate) fn open_groups(&self) -> usize
+        ensures { result ≡ length self.now.ready.places }
+    {
         self.ready.open_groups()
     }
 
@@ -287,6 +343,13 @@ impl Pool {
         ensures { result ≡ next_item cells.now throttle.now t self.now.items }
     {
         self.store.next(t, cells, throttle)
+    }
+
+    /// The item of a number.
+    pub(crate) fn get(&self, number: u64) -> Option<&Item>
+        ensures { option_copied result ≡ find (has_number number) self.now.items }
+    {
+        self.store.get(number)
     }
 
     /// The items by reference, in order of number.

@@ -1,6 +1,8 @@
 ghost use Rattle.std.specs.Prelude.{◌≡◌, ◌⊎◌, ◌≤◌, ℕ, Some, None, true, false};
-ghost use Rattle.std.specs.Prelude.{OnOk, OnErr, IfOk};
+ghost use Rattle.std.specs.Prelude.{OnOk, OnErr, IfOk, IfSome, length};
+ghost use Rattle.std.specs.Option.{IfNone};
 ghost use Rattle.kinds.specs.Cells.{last_moment};
+ghost use Rattle.ready_queue.specs.Front.{IsFrontHeld, AllParked};
 ghost use Rattle.ready_queue.specs.Held.{Group, name_at, holds, AreSame, Comes, Goes, ComesNamed};
 ghost use Rattle.ready_queue.specs.Held.{IsLeastHeld, AreOf, AsksFew};
 ghost use Rattle.ready_queue.specs.Held.{IsParked, AreFewer, AreOneMore, AreClosed};
@@ -138,13 +140,29 @@ impl Ready {
         Ok(())
     }
 
+    /// The number of the first item of a group.
+    pub(crate) fn head(&self, group: &Group) -> Option<u64>
+        ensures some { IfSome result (λ n. (s : ℕ) × (holds self.now.held group.now s n ≡ true)) }
+        ensures none { IfNone result ((s n : ℕ) → holds self.now.held group.now s n ≡ false) }
+    {
+        let Some(name) = self.names.get(group).copied() else {
+            return None;
+        };
+        self.index.head(name)
+    }
+
     /// The number of the first item of the first group that isn't parked.
-    pub(crate) fn front(&self) -> Option<u64> {
+    pub(crate) fn front(&self) -> Option<u64>
+        ensures some { IfSome result (IsFrontHeld self.now) }
+        ensures none { IfNone result (AllParked self.now) }
+    {
         self.index.front()
     }
 
     /// How many groups aren't parked.
-    pub(crate) fn open_groups(&self) -> usize {
+    pub(crate) fn open_groups(&self) -> usize
+        ensures { result ≡ length self.now.places }
+    {
         self.index.open_groups()
     }
 

@@ -64,8 +64,9 @@ impl Store {
     }
 
     /// The item of a number, where one has it.
-    pub(crate) fn at(&self, number: u64) -> Option<&Item>
-        ensures { IfSome result (λ i. IsStart i.now.start) }
+    pub(crate) fn item(&self, number: u64) -> Option<&Item>
+        ensures found { option_copied result ≡ find (has_number number) self.now }
+        ensures start { IfSome result (λ i. IsStart i.now.start) }
     {
         let Some(item) = self.items.get(&number) else {
             return None;

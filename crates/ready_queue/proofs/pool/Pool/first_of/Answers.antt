@@ -1,0 +1,17 @@
+use Rattle.std.proofs.Common.{◌∙◌, sym, subst}
+use Rattle.ready_queue.specs.Ahead.{IsItemOf}
+use Rattle.ready_queue.specs.Held.{IsParked}
+use Rattle.ready_queue.specs.Pool.{Pool}
+use Rattle.ready_queue.proofs.AheadLemmas.{held_not_parked, none_some}
+use Rattle.ready_queue.proofs.pool.Pool.first_of.Goals as goal
+
+pub returns-in_default-clause-none : goal.returns-in_default-clause-none
+returns-in_default-clause-none c p = held_not_parked _ _ c.in_default.ensures.none (subst (λ (q : Pool). IsParked q.ready c.args.group.now) (sym c.self.view_is) p)
+
+pub returns-in_err-item-clause-none : goal.returns-in_err-item-clause-none
+returns-in_err-item-clause-none c = absurd (none_some _ (c.in_err-item.ensures.found ∙ (c.self.invariant.ready c.args.group.now c.in-Some.ensures.some.0 c.in-Some.number c.in-Some.ensures.some.1).found))
+
+pub returns-clause-some : goal.returns-clause-some
+returns-clause-some c =
+    subst (λ (q : Pool). IsItemOf q.items q.ready c.args.group.now c.in_ok-item.item.now) c.self.view_is
+    (record { score = c.in-Some.ensures.some.0; number = c.in-Some.number; here = c.in-Some.ensures.some.1; found = sym c.in_ok-item.ensures.found; start = c.in_ok-item.ensures.start })
