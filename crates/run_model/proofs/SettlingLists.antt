@@ -10,7 +10,7 @@ pub or-right : (a b : Bool) → b ≡ true → (a || b) ≡ true
 or-right true b h = refl
 or-right false b h = h
 
-same-some : {X : Type 0} (x y : X) → Some x ≡ Some y → x ≡ y
+pub same-some : {X : Type 0} (x y : X) → Some x ≡ Some y → x ≡ y
 same-some x y h = cc
 
 -- ## What a test finds
@@ -73,7 +73,7 @@ find-filter p q (x ∷ xs) h = by_tests (p x) (q x) refl (h x) (find-filter p q 
     by_tests false true e w more = rw e more
     by_tests false false e w more = more
 
-length-left : {X : Type 0} (p : X → Bool) (xs : List X) → length (filter p xs) ≤ length xs
+pub length-left : {X : Type 0} (p : X → Bool) (xs : List X) → length (filter p xs) ≤ length xs
 length-left p [] = omega arith
 length-left p (x ∷ xs) = by_test (p x) (length-left p xs)
   where

@@ -2,8 +2,10 @@
 ghost use Rattle.kinds.specs.RunSteps.{result_of};
 ghost use Rattle.kinds.specs.declared.input.Input.{Input};
 ghost use Rattle.kinds.specs.declared.limits.Limits.{Limits};
-ghost use Rattle.run_model.specs.Laws.{AreCounted, Follows};
+ghost use Rattle.run_model.specs.Fit.{RunsStandOnce};
+ghost use Rattle.run_model.specs.Laws.{AreCounted, Follows, HasFunctions, IsNoRegistration};
 ghost use Rattle.run_model.specs.Machine.{fold, step};
+ghost use Rattle.run_model.specs.Sound.{AreOfLive};
 ghost use Rattle.run_model.specs.State.{State, Run, live_run};
 ghost use Rattle.std.specs.Prelude.{ℕ, List, ◌≡◌, ◌++◌, Some};
 
@@ -33,4 +35,25 @@ pub fn recorded_steps_stay()
         live_run number (fold limits (inputs ++ more)) ≡ Some after →
         (name text : List ℕ) → result_of name before.steps ≡ Some text →
         result_of name after.steps ≡ Some text }
+{}
+
+/// The current functions, and the count of versions, change by registrations alone.
+pub fn only_registrations_change_functions()
+    ensures { (s : State) (input : Input) → IsNoRegistration input →
+        HasFunctions s.versions s.functions (step s input).state }
+{}
+
+/// The numbers of runs that are there differ, and no run ends twice, or has ended and not: so it is after each input.
+pub fn runs_keep_standing_once()
+    ensures { (s : State) (input : Input) → RunsStandOnce s → RunsStandOnce (step s input).state }
+{}
+
+/// So it is in each state that is reached.
+pub fn runs_stand_once()
+    ensures { (limits : Limits) (inputs : List Input) → RunsStandOnce (fold limits inputs) }
+{}
+
+/// In each state that is reached, each queued item, sleep, wait, invocation and rule is of a run that has not ended.
+pub fn what_waits_is_of_live_runs()
+    ensures { (limits : Limits) (inputs : List Input) → AreOfLive (fold limits inputs) }
 {}

@@ -2,12 +2,26 @@
 //! and laws that hold of them. It has no code but laws: public functions with empty bodies.
 #![tactic(auto)]
 
+mod calls;
+mod fit;
+mod items;
 mod laws;
 mod settling;
 mod waiting;
 
+pub use calls::{items_stay_new, limits_are_kept, recorded_steps_are_not_called};
+pub use fit::{empty_is_fit, histories_are_fit, steps_stay_fit};
+pub use items::{
+    ended_calls_leave_items_aside, items_have_own_numbers, items_keep_own_numbers,
+    operations_leave_items_aside,
+};
 pub use laws::{
-    numbers_are_counted, numbers_stay_counted, recorded_only_grows, recorded_steps_stay,
+    numbers_are_counted, numbers_stay_counted, only_registrations_change_functions,
+    recorded_only_grows, recorded_steps_stay, runs_keep_standing_once, runs_stand_once,
+    what_waits_is_of_live_runs,
 };
 pub use settling::{calls_send_all_that_is_recorded, nothing_admissible_is_left};
-pub use waiting::only_time_passes_before_the_next_moment;
+pub use waiting::{
+    nothing_happens_before_the_next_moment, nothing_is_overdue,
+    only_time_passes_before_the_next_moment, runs_are_dated, steps_are_tidied,
+};
