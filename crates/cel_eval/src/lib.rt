@@ -23,6 +23,3 @@ pub use cell::cell_value;
 pub use evaluate::eval;
 pub use fault::EvalFault;
 pub use value::Value;
-
-#[cfg(test)]
-mod tests;
