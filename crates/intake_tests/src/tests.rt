@@ -1,7 +1,8 @@
-use crate::{IntakeFault, Seen, event_text, read_events};
+use intake::{IntakeFault, Seen, event_text, read_events};
 use kinds::{EventIn, Out};
 use lists::{Bytes, Memory};
 use std::alloc::Global;
+use std::process::Abort;
 use std::test::Fail;
 
 const DAY: u64 = 86_400_000;
@@ -80,208 +81,101 @@ fn around(alloc: Global, before: &[u8], inner: &[u8], after: &[u8]) -> Result<By
     Ok(all)
 }
 
+/// Bodies, and what each comes to.
+const BODIES: &str = r#"[] => 
+ [ ]  => 
+{"name":"x"} => {"name":"x","data":{},"id":"evt-1","ts":1000}
+[{"name":"x","id":"i"},{"name":"x","id":"i"}] => {"name":"x","data":{},"id":"i","ts":1000}{"name":"x","data":{},"id":"i","ts":1000}
+[{"name":"x"},{"data":{}}] => {"error":"no name","at":1,"status":400}
+7 => {"error":"no name","at":0,"status":400}
+null => {"error":"no name","at":0,"status":400}
+"name" => {"error":"no name","at":0,"status":400}
+{} => {"error":"no name","at":0,"status":400}
+[{"name":"x"},[{"name":"x"}]] => {"error":"no name","at":1,"status":400}
+{"name":""} => {"error":"no name","at":0,"status":400}
+{"name":null} => {"error":"no name","at":0,"status":400}
+{"name":["x"]} => {"error":"no name","at":0,"status":400}
+{"name":"x","data":[]} => {"error":"data not object","at":0,"status":400}
+[{"name":"x","data":{}},{"name":"x","data":"{}"}] => {"error":"data not object","at":1,"status":400}
+{"name":"x","data":false} => {"error":"data not object","at":0,"status":400}
+[{"name":"x","data":1},{}] => {"error":"data not object","at":0,"status":400}
+[{"data":1},{"name":"x","data":1}] => {"error":"no name","at":0,"status":400}
+ => {"error":"not json","at":0,"status":400}
+{"name":"x" => {"error":"not json","at":11,"status":400}
+[{},{},] => {"error":"not json","at":7,"status":400}
+[{}] 1 => {"error":"not json","at":5,"status":400}
+{"name":"\ud800"} => {"error":"not json","at":15,"status":400}
+{"name":"a","name":"b"} => {"name":"b","data":{},"id":"evt-1","ts":1000}
+{"name":"a","name":1} => {"error":"no name","at":0,"status":400}
+{"\u006eame":"shop\/\"\u00e9"} => {"name":"shop/\"é","data":{},"id":"evt-1","ts":1000}
+{"name":"\u0000"} => {"name":"\u0000","data":{},"id":"evt-1","ts":1000}
+"#;
+
+/// What stands behind the member `name`, and behind its text.
+const MEMBERS: &str = r#","data":null => ,"data":{},"id":"evt-1","ts":1000}
+ , "data" : { "p" : 1.50 , "q":[ 1e2 ] }  => ,"data":{ "p" : 1.50 , "q":[ 1e2 ] },"id":"evt-1","ts":1000}
+,"data":{"p":1.50,"q":1e2} => ,"data":{"p":1.50,"q":1e2},"id":"evt-1","ts":1000}
+,"id":"" => ,"data":{},"id":"evt-1","ts":1000}
+,"id":7 => ,"data":{},"id":"evt-1","ts":1000}
+,"id":null => ,"data":{},"id":"evt-1","ts":1000}
+,"id":["i"] => ,"data":{},"id":"evt-1","ts":1000}
+,"id":"\u0041\"\\\/\n\u001Fé" => ,"data":{},"id":"A\"\\/\u000a\u001fé","ts":1000}
+,"id":"\u0000" => ,"data":{},"id":"\u0000","ts":1000}
+,"ts":"1" => ,"data":{},"id":"evt-1","ts":1000}
+,"ts":null => ,"data":{},"id":"evt-1","ts":1000}
+,"ts":1e3 => ,"data":{},"id":"evt-1","ts":1e3}
+,"ts":-0 => ,"data":{},"id":"evt-1","ts":-0}
+,"user":null => ,"data":{},"id":"evt-1","ts":1000,"user":null}
+,"v":"\u0041","user":{"id":7} => ,"data":{},"id":"evt-1","ts":1000,"user":{"id":7},"v":"\u0041"}
+,"total":1,"event":{},"V":2 => ,"data":{},"id":"evt-1","ts":1000}
+,"data":[],"data":{"k":2} => ,"data":{"k":2},"id":"evt-1","ts":1000}
+,"data":{"k":1},"\u0064ata":null => ,"data":{},"id":"evt-1","ts":1000}
+,"id":"i","id":"j" => ,"data":{},"id":"j","ts":1000}
+,"id":"i","id":"" => ,"data":{},"id":"evt-1","ts":1000}
+,"ts":1,"ts":2.0 => ,"data":{},"id":"evt-1","ts":2.0}
+,"ts":1,"ts":"" => ,"data":{},"id":"evt-1","ts":1000}
+,"user":1,"user":2 => ,"data":{},"id":"evt-1","ts":1000,"user":2}
+,"v":"1","v":"2" => ,"data":{},"id":"evt-1","ts":1000,"v":"2"}
+"#;
+
+/// Reads the body of each row, between the two texts, and gives the number of the rows.
+fn walk<R: Abort>(
+    rt: &R,
+    alloc: Global,
+    rows: &str,
+    before: &[u8],
+    after: &[u8],
+) -> Result<u32, Fail> {
+    let mut count: u32 = 0;
+    for row in rows.lines() {
+        if let Some((source, expected)) = row.split_once(" => ") {
+            let body = around(alloc, before, source.as_bytes(), after)?;
+            let whole = around(alloc, before, expected.as_bytes(), b"")?;
+            let text = told(alloc, body.as_slice())?;
+            assert_eq!(rt; (source, text.as_slice()), (source, whole.as_slice()));
+            count = count.wrapping_add(1);
+        }
+    }
+    Ok(count)
+}
+
 #[test]
 fn bodies(rt: HostRuntime) -> Result<(), Fail> {
-    let rows: [(&str, &str); 24] = [
-        ("[]", ""),
-        (" [ ] ", ""),
-        (
-            "{\"name\":\"x\"}",
-            "{\"name\":\"x\",\"data\":{},\"id\":\"evt-1\",\"ts\":1000}",
-        ),
-        (
-            "[{\"name\":\"x\",\"id\":\"i\"},{\"name\":\"x\",\"id\":\"i\"}]",
-            "{\"name\":\"x\",\"data\":{},\"id\":\"i\",\"ts\":1000}{\"name\":\"x\",\"data\":{},\"id\":\"i\",\"ts\":1000}",
-        ),
-        (
-            "[{\"name\":\"x\"},{\"data\":{}}]",
-            "{\"error\":\"no name\",\"at\":1,\"status\":400}",
-        ),
-        ("7", "{\"error\":\"no name\",\"at\":0,\"status\":400}"),
-        ("null", "{\"error\":\"no name\",\"at\":0,\"status\":400}"),
-        (
-            "\"name\"",
-            "{\"error\":\"no name\",\"at\":0,\"status\":400}",
-        ),
-        ("{}", "{\"error\":\"no name\",\"at\":0,\"status\":400}"),
-        (
-            "[{\"name\":\"x\"},[{\"name\":\"x\"}]]",
-            "{\"error\":\"no name\",\"at\":1,\"status\":400}",
-        ),
-        (
-            "{\"name\":\"\"}",
-            "{\"error\":\"no name\",\"at\":0,\"status\":400}",
-        ),
-        (
-            "{\"name\":null}",
-            "{\"error\":\"no name\",\"at\":0,\"status\":400}",
-        ),
-        (
-            "{\"name\":[\"x\"]}",
-            "{\"error\":\"no name\",\"at\":0,\"status\":400}",
-        ),
-        (
-            "{\"name\":\"x\",\"data\":[]}",
-            "{\"error\":\"data not object\",\"at\":0,\"status\":400}",
-        ),
-        (
-            "[{\"name\":\"x\",\"data\":{}},{\"name\":\"x\",\"data\":\"{}\"}]",
-            "{\"error\":\"data not object\",\"at\":1,\"status\":400}",
-        ),
-        (
-            "{\"name\":\"x\",\"data\":false}",
-            "{\"error\":\"data not object\",\"at\":0,\"status\":400}",
-        ),
-        (
-            "[{\"name\":\"x\",\"data\":1},{}]",
-            "{\"error\":\"data not object\",\"at\":0,\"status\":400}",
-        ),
-        (
-            "[{\"data\":1},{\"name\":\"x\",\"data\":1}]",
-            "{\"error\":\"no name\",\"at\":0,\"status\":400}",
-        ),
-        ("", "{\"error\":\"not json\",\"at\":0,\"status\":400}"),
-        (
-            "{\"name\":\"x\"",
-            "{\"error\":\"not json\",\"at\":11,\"status\":400}",
-        ),
-        (
-            "[{},{},]",
-            "{\"error\":\"not json\",\"at\":7,\"status\":400}",
-        ),
-        ("[{}] 1", "{\"error\":\"not json\",\"at\":5,\"status\":400}"),
-        (
-            "{\"name\":\"\\ud800\"}",
-            "{\"error\":\"not json\",\"at\":15,\"status\":400}",
-        ),
-        (
-            "{\"name\":\"\u{0}\"}",
-            "{\"error\":\"not json\",\"at\":9,\"status\":400}",
-        ),
-    ];
-    for (body, expected) in rows {
-        let text = told(rt.alloc(), body.as_bytes())?;
-        assert_eq!(&rt; text.as_slice(), expected.as_bytes(), "{body}");
-    }
+    assert_eq!(rt; walk(&rt, rt.alloc(), BODIES, b"", b"")?, 27);
+    let text = told(rt.alloc(), b"{\"name\":\"\x00\"}")?;
+    assert_eq!(rt;
+        text.as_slice(),
+        b"{\"error\":\"not json\",\"at\":9,\"status\":400}".as_slice()
+    );
     Ok(())
 }
 
 #[test]
 fn members(rt: HostRuntime) -> Result<(), Fail> {
-    // What stands behind the member `name`, and behind its text.
-    let rows: [(&str, &str); 24] = [
-        (
-            ",\"data\":null",
-            ",\"data\":{},\"id\":\"evt-1\",\"ts\":1000}",
-        ),
-        (
-            " , \"data\" : { \"p\" : 1.50 , \"q\":[ 1e2 ] } ",
-            ",\"data\":{ \"p\" : 1.50 , \"q\":[ 1e2 ] },\"id\":\"evt-1\",\"ts\":1000}",
-        ),
-        (
-            ",\"data\":{\"p\":1.50,\"q\":1e2}",
-            ",\"data\":{\"p\":1.50,\"q\":1e2},\"id\":\"evt-1\",\"ts\":1000}",
-        ),
-        (",\"id\":\"\"", ",\"data\":{},\"id\":\"evt-1\",\"ts\":1000}"),
-        (",\"id\":7", ",\"data\":{},\"id\":\"evt-1\",\"ts\":1000}"),
-        (",\"id\":null", ",\"data\":{},\"id\":\"evt-1\",\"ts\":1000}"),
-        (
-            ",\"id\":[\"i\"]",
-            ",\"data\":{},\"id\":\"evt-1\",\"ts\":1000}",
-        ),
-        (
-            ",\"id\":\"\\u0041\\\"\\\\\\/\\n\\u001F\u{e9}\"",
-            ",\"data\":{},\"id\":\"A\\\"\\\\/\\u000a\\u001f\u{e9}\",\"ts\":1000}",
-        ),
-        (
-            ",\"id\":\"\\u0000\"",
-            ",\"data\":{},\"id\":\"\\u0000\",\"ts\":1000}",
-        ),
-        (
-            ",\"ts\":\"1\"",
-            ",\"data\":{},\"id\":\"evt-1\",\"ts\":1000}",
-        ),
-        (",\"ts\":null", ",\"data\":{},\"id\":\"evt-1\",\"ts\":1000}"),
-        (",\"ts\":1e3", ",\"data\":{},\"id\":\"evt-1\",\"ts\":1e3}"),
-        (",\"ts\":-0", ",\"data\":{},\"id\":\"evt-1\",\"ts\":-0}"),
-        (
-            ",\"user\":null",
-            ",\"data\":{},\"id\":\"evt-1\",\"ts\":1000,\"user\":null}",
-        ),
-        (
-            ",\"v\":\"\\u0041\",\"user\":{\"id\":7}",
-            ",\"data\":{},\"id\":\"evt-1\",\"ts\":1000,\"user\":{\"id\":7},\"v\":\"\\u0041\"}",
-        ),
-        (
-            ",\"total\":1,\"event\":{},\"V\":2",
-            ",\"data\":{},\"id\":\"evt-1\",\"ts\":1000}",
-        ),
-        (
-            ",\"data\":[],\"data\":{\"k\":2}",
-            ",\"data\":{\"k\":2},\"id\":\"evt-1\",\"ts\":1000}",
-        ),
-        (
-            ",\"data\":{\"k\":1},\"\\u0064ata\":null",
-            ",\"data\":{},\"id\":\"evt-1\",\"ts\":1000}",
-        ),
-        (
-            ",\"id\":\"i\",\"id\":\"j\"",
-            ",\"data\":{},\"id\":\"j\",\"ts\":1000}",
-        ),
-        (
-            ",\"id\":\"i\",\"id\":\"\"",
-            ",\"data\":{},\"id\":\"evt-1\",\"ts\":1000}",
-        ),
-        (
-            ",\"ts\":1,\"ts\":2.0",
-            ",\"data\":{},\"id\":\"evt-1\",\"ts\":2.0}",
-        ),
-        (
-            ",\"ts\":1,\"ts\":\"\"",
-            ",\"data\":{},\"id\":\"evt-1\",\"ts\":1000}",
-        ),
-        (
-            ",\"user\":1,\"user\":2",
-            ",\"data\":{},\"id\":\"evt-1\",\"ts\":1000,\"user\":2}",
-        ),
-        (
-            ",\"v\":\"1\",\"v\":\"2\"",
-            ",\"data\":{},\"id\":\"evt-1\",\"ts\":1000,\"v\":\"2\"}",
-        ),
-    ];
-    for (source, expected) in rows {
-        let body = around(rt.alloc(), b"{\"name\":\"x\"", source.as_bytes(), b"}")?;
-        let whole = around(rt.alloc(), b"{\"name\":\"x\"", expected.as_bytes(), b"")?;
-        let text = told(rt.alloc(), body.as_slice())?;
-        assert_eq!(&rt; text.as_slice(), whole.as_slice(), "{source}");
-    }
-    Ok(())
-}
-
-#[test]
-fn names(rt: HostRuntime) -> Result<(), Fail> {
-    let rows: [(&str, &str); 4] = [
-        (
-            "{\"name\":\"a\",\"name\":\"b\"}",
-            "{\"name\":\"b\",\"data\":{},\"id\":\"evt-1\",\"ts\":1000}",
-        ),
-        (
-            "{\"name\":\"a\",\"name\":1}",
-            "{\"error\":\"no name\",\"at\":0,\"status\":400}",
-        ),
-        (
-            "{\"\\u006eame\":\"shop\\/\\\"\\u00e9\"}",
-            "{\"name\":\"shop/\\\"\u{e9}\",\"data\":{},\"id\":\"evt-1\",\"ts\":1000}",
-        ),
-        (
-            "{\"name\":\"\\u0000\"}",
-            "{\"name\":\"\\u0000\",\"data\":{},\"id\":\"evt-1\",\"ts\":1000}",
-        ),
-    ];
-    for (body, expected) in rows {
-        let text = told(rt.alloc(), body.as_bytes())?;
-        assert_eq!(&rt; text.as_slice(), expected.as_bytes(), "{body}");
-    }
+    assert_eq!(rt;
+        walk(&rt, rt.alloc(), MEMBERS, b"{\"name\":\"x\"", b"}")?,
+        24
+    );
     Ok(())
 }
 
