@@ -18,21 +18,32 @@ fn an_id_tells_for_a_day(rt: HostRuntime) -> Result<(), Fail> {
     Ok(())
 }
 
-#[test]
-fn a_new_entry_takes_the_place_of_an_old_one(rt: HostRuntime) -> Result<(), Fail> {
-    let mut seen = Seen::empty(rt.alloc());
+// One id is noted twice, a day apart, and another between.
+fn noted(alloc: Global) -> Result<Seen, Memory> {
+    let mut seen = Seen::empty(alloc);
     seen.note(b"a", 1, 0)?;
     seen.note(b"bc", 2, 5)?;
     seen.note(b"a", 3, DAY)?;
+    Ok(seen)
+}
+
+fn numbers(alloc: Global, seen: &Seen) -> Result<Vec<u64>, Fail> {
+    Ok(seen.entries().map(|e| e.number).collect::<Vec<u64>>(alloc)?)
+}
+
+#[test]
+fn a_new_entry_takes_the_place_of_an_old_one(rt: HostRuntime) -> Result<(), Fail> {
+    let seen = noted(rt.alloc())?;
     assert_eq!(rt; seen.weight(), 131);
-    assert_eq!(rt;
-        seen.entries()
-            .map(|e| e.number)
-            .collect::<Vec<u64>>(rt.alloc())?
-            .as_slice(),
-        [2u64, 3].as_slice()
-    );
     assert_eq!(rt; seen.find(b"a", DAY), Some(3));
+    let numbers = numbers(rt.alloc(), &seen)?;
+    assert_eq!(rt; numbers.as_slice(), [2u64, 3].as_slice());
+    Ok(())
+}
+
+#[test]
+fn an_entry_is_forgotten_after_a_day(rt: HostRuntime) -> Result<(), Fail> {
+    let mut seen = noted(rt.alloc())?;
     seen.forget(DAY + 5);
     assert_eq!(rt; seen.weight(), 65);
     assert_eq!(rt; seen.find(b"bc", 5), None);
@@ -334,33 +345,49 @@ fn depths(rt: HostRuntime) -> Result<(), Fail> {
     Ok(())
 }
 
-#[test]
-fn event_texts(rt: HostRuntime) -> Result<(), Fail> {
-    let alloc = rt.alloc();
-    let event = EventIn {
+// An event that has a name and data alone.
+fn bare(alloc: Global) -> Result<EventIn, Memory> {
+    Ok(EventIn {
         name: Bytes::from_slice(alloc, b"shop/\x01")?,
         content: Bytes::from_slice(alloc, b"{\"p\":1.50,\"q\":1e2}")?,
-        id: Some(Bytes::from_slice(alloc, b"\"\\\x1f")?),
-        ts: Some(Bytes::from_slice(alloc, b"1e3")?),
-        user: Some(Bytes::from_slice(alloc, b"{\"id\":7}")?),
-        v: Some(Bytes::from_slice(alloc, b"\"2024-01-01\"")?),
-    };
-    let text = event_text(alloc, &event, u64::MAX, 0)?;
-    assert_eq!(&rt;
-        text.as_slice(),
-        b"{\"name\":\"shop/\\u0001\",\"data\":{\"p\":1.50,\"q\":1e2},\"id\":\"\\\"\\\\\\u001f\",\"ts\":1e3,\"user\":{\"id\":7},\"v\":\"2024-01-01\"}".as_slice()
-    );
-    let event = EventIn {
         id: None,
         ts: None,
         user: None,
         v: None,
-        ..event
-    };
-    let text = event_text(alloc, &event, u64::MAX, 0)?;
-    assert_eq!(&rt;
-        text.as_slice(),
-        b"{\"name\":\"shop/\\u0001\",\"data\":{\"p\":1.50,\"q\":1e2},\"id\":\"evt-18446744073709551615\",\"ts\":0}".as_slice()
-    );
+    })
+}
+
+// The event with each of the other members.
+fn with_members(alloc: Global, event: EventIn) -> Result<EventIn, Memory> {
+    let mut event = event;
+    event.id = Some(Bytes::from_slice(alloc, b"\"\\\x1f")?);
+    event.ts = Some(Bytes::from_slice(alloc, b"1e3")?);
+    event.user = Some(Bytes::from_slice(alloc, b"{\"id\":7}")?);
+    event.v = Some(Bytes::from_slice(alloc, b"\"2024-01-01\"")?);
+    Ok(event)
+}
+
+// The event of the greatest number at 0 has this text.
+fn has_text<R: Abort>(rt: &R, alloc: Global, event: &EventIn, wanted: &[u8]) -> Result<(), Fail> {
+    let text = event_text(alloc, event, u64::MAX, 0)?;
+    assert_eq!(rt; text.as_slice(), wanted);
     Ok(())
+}
+
+#[test]
+fn event_texts(rt: HostRuntime) -> Result<(), Fail> {
+    let event = bare(rt.alloc())?;
+    has_text(
+        &rt,
+        rt.alloc(),
+        &event,
+        b"{\"name\":\"shop/\\u0001\",\"data\":{\"p\":1.50,\"q\":1e2},\"id\":\"evt-18446744073709551615\",\"ts\":0}",
+    )?;
+    let event = with_members(rt.alloc(), event)?;
+    has_text(
+        &rt,
+        rt.alloc(),
+        &event,
+        b"{\"name\":\"shop/\\u0001\",\"data\":{\"p\":1.50,\"q\":1e2},\"id\":\"\\\"\\\\\\u001f\",\"ts\":1e3,\"user\":{\"id\":7},\"v\":\"2024-01-01\"}",
+    )
 }
