@@ -1,3 +1,4 @@
 mod BehindLemmas
 mod BesideLemmas
+mod RuleLemmas
 mod StepLemmas

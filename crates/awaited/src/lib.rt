@@ -5,13 +5,17 @@
 mod dues;
 mod entries;
 mod invocations;
+mod rules;
 mod sleeps;
 mod timed;
+mod waits;
 
 pub use entries::{Invocation, Sleep, WaitStep};
 pub use invocations::Invocations;
+pub use rules::Rules;
 pub use sleeps::Sleeps;
 pub use timed::{Timed, TimedList};
+pub use waits::Waits;
 
 #[cfg(test)]
 mod tests;
