@@ -51,68 +51,106 @@ fn due(due: u64, number: u64, run: u64) -> Option<Due> {
     Some(Due { due, number, run })
 }
 
-fn sleep(number: u64, run: u64, due: u64) -> Sleep
+/// The entries of a test have numbers from 0 on, and these dues.
+fn due_at(number: u64) -> u64 {
+    match number {
+        0 => 30,
+        1 => 10,
+        _ => 20,
+    }
+}
+
+fn sleep(number: u64) -> Sleep
     ensures { sleep_number result ≡ number }
 {
     Sleep {
         number,
-        run,
+        run: number % 2,
         hash: hash(97),
-        due,
+        due: due_at(number),
     }
 }
 
-fn invocation(number: u64, run: u64, digit: u8, due: Option<u64>) -> Invocation
+fn sleeps(alloc: Global, count: u64) -> Result<Sleeps, Memory> {
+    let mut sleeps = Sleeps::empty(alloc);
+    for number in 0..count {
+        sleeps.add(sleep(number))?;
+    }
+    Ok(sleeps)
+}
+
+fn invocation(number: u64) -> Invocation
     ensures { invocation_number result ≡ number }
 {
     Invocation {
         number,
-        run,
-        hash: hash(digit),
+        run: 7,
+        hash: hash(if number < 2 { 97 } else { 98 }),
         child: 9,
-        due,
+        due: Some(due_at(number)),
     }
 }
 
-fn rule(alloc: Global, number: u64, run: u64, due: Option<u64>) -> Result<Rule, Memory>
+fn invocations(alloc: Global, count: u64) -> Result<Invocations, Memory> {
+    let mut invocations = Invocations::empty(alloc);
+    for number in 0..count {
+        invocations.add(invocation(number))?;
+    }
+    Ok(invocations)
+}
+
+fn rule(alloc: Global, number: u64) -> Result<Rule, Memory>
     ensures { IfOk result (λ r. rule_number r ≡ number) }
 {
     Ok(Rule {
         number,
-        run,
+        run: number % 2,
         first: 1,
         name: Bytes::from_slice(alloc, b"y")?,
         cond: None,
-        due,
+        due: if number == 1 { Some(10) } else { None },
         bucket: None,
     })
 }
 
-fn wait(alloc: Global, number: u64, run: u64, due: u64) -> Result<Wait, Memory>
+fn rules(alloc: Global, count: u64) -> Result<Rules, Memory> {
+    let mut rules = Rules::empty(alloc);
+    for number in 0..count {
+        rules.add(rule(alloc, number)?)?;
+    }
+    Ok(rules)
+}
+
+fn wait(alloc: Global, number: u64) -> Result<Wait, Memory>
     ensures { IfOk result (λ w. wait_number w ≡ number) }
 {
     Ok(Wait {
         number,
-        run,
+        run: number % 2,
         first: 1,
         name: Bytes::from_slice(alloc, b"y")?,
         cond: None,
-        due,
+        due: due_at(number),
         bucket: None,
     })
 }
 
+fn waits(alloc: Global, count: u64) -> Result<Waits, Memory> {
+    let mut waits = Waits::empty(alloc);
+    for number in 0..count {
+        waits.add(wait(alloc, number)?, hash(97))?;
+    }
+    Ok(waits)
+}
+
 #[test]
 fn sleeps_end_in_order_of_due(rt: HostRuntime) -> Result<(), Fail> {
-    let mut sleeps = Sleeps::empty(rt.alloc());
-    sleeps.add(sleep(1, 7, 30))?;
-    sleeps.add(sleep(2, 8, 10))?;
-    sleeps.add(sleep(4, 7, 10))?;
-    assert_eq!(rt; sleeps.first(), due(10, 2, 8));
-    assert_eq!(rt; sleeps.remove(2), Some(sleep(2, 8, 10)));
-    assert_eq!(rt; sleeps.first(), due(10, 4, 7));
-    assert_eq!(rt; sleeps.get(1).copied(), Some(sleep(1, 7, 30)));
-    sleeps.drop_run(7);
+    let mut sleeps = sleeps(rt.alloc(), 3)?;
+    assert_eq!(rt; sleeps.first(), due(10, 1, 1));
+    assert_eq!(rt; sleeps.remove(1), Some(sleep(1)));
+    assert_eq!(rt; sleeps.first(), due(20, 2, 0));
+    assert_eq!(rt; sleeps.get(0).copied(), Some(sleep(0)));
+    sleeps.drop_run(0);
     assert_eq!(rt; sleeps.first(), None);
     assert_eq!(rt; sleeps.entries().count(), 0);
     Ok(())
@@ -120,49 +158,39 @@ fn sleeps_end_in_order_of_due(rt: HostRuntime) -> Result<(), Fail> {
 
 #[test]
 fn invocations_go_by_step(rt: HostRuntime) -> Result<(), Fail> {
-    let mut invocations = Invocations::empty(rt.alloc());
-    invocations.add(invocation(1, 7, 97, None))?;
-    invocations.add(invocation(2, 7, 97, Some(20)))?;
-    invocations.add(invocation(3, 7, 98, Some(30)))?;
-    invocations.add(invocation(4, 8, 97, Some(40)))?;
-    assert_eq!(rt; invocations.first(), due(20, 2, 7));
+    let mut invocations = invocations(rt.alloc(), 4)?;
+    assert_eq!(rt; invocations.first(), due(10, 1, 7));
     invocations.remove_of(&Parent {
         run: 7,
         hash: hash(97),
     });
-    assert_eq!(rt; invocations.first(), due(30, 3, 7));
+    assert_eq!(rt; invocations.first(), due(20, 2, 7));
     assert_eq!(rt; invocations.get(1).copied(), None);
-    assert_eq!(rt; invocations.entries().count(), 2);
+    assert_eq!(rt; invocations.remove(2), Some(invocation(2)));
     invocations.drop_run(7);
-    assert_eq!(rt; invocations.remove(4), Some(invocation(4, 8, 97, Some(40))));
-    assert_eq!(rt; invocations.first(), None);
+    assert_eq!(rt; invocations.entries().count(), 0);
     Ok(())
 }
 
 #[test]
 fn rules_end_or_not(rt: HostRuntime) -> Result<(), Fail> {
-    let mut rules = Rules::empty(rt.alloc());
-    rules.add(rule(rt.alloc(), 1, 7, None)?)?;
-    rules.add(rule(rt.alloc(), 2, 8, Some(20))?)?;
-    assert_eq!(rt; rules.first(), due(20, 2, 8));
-    rules.remove(2);
+    let mut rules = rules(rt.alloc(), 3)?;
+    assert_eq!(rt; rules.first(), due(10, 1, 1));
+    rules.remove(1);
     assert_eq!(rt; rules.first(), None);
-    assert_eq!(rt; rules.entries().count(), 1);
-    rules.drop_run(7);
+    rules.drop_run(0);
     assert_eq!(rt; rules.entries().count(), 0);
     Ok(())
 }
 
 #[test]
 fn waits_have_their_steps(rt: HostRuntime) -> Result<(), Fail> {
-    let mut waits = Waits::empty(rt.alloc());
-    waits.add(wait(rt.alloc(), 1, 7, 30)?, hash(97))?;
-    waits.add(wait(rt.alloc(), 2, 8, 20)?, hash(98))?;
-    assert_eq!(rt; waits.first(), due(20, 2, 8));
-    assert_eq!(rt; waits.get(1).map(|step| step.hash), Some(hash(97)));
-    assert_eq!(rt; waits.remove(2).map(|step| step.run), Some(8));
-    assert_eq!(rt; waits.waits().count(), 1);
-    waits.drop_run(7);
+    let mut waits = waits(rt.alloc(), 3)?;
+    assert_eq!(rt; waits.first(), due(10, 1, 1));
+    assert_eq!(rt; waits.get(2).map(|step| step.due), Some(20));
+    assert_eq!(rt; waits.remove(1).map(|step| step.hash), Some(hash(97)));
+    assert_eq!(rt; waits.waits().count(), 2);
+    waits.drop_run(0);
     assert_eq!(rt; waits.steps().count(), 0);
     Ok(())
 }
