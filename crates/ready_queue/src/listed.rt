@@ -1,5 +1,5 @@
 ghost use Rattle.std.specs.Prelude.{◌≡◌, ◌⊎◌, ◌+◌, ◌≤◌, [], find, None, OnOk, OnErr, IfSome};
-ghost use Rattle.std.specs.Option.{IfNone};
+ghost use Rattle.std.specs.Option.{option_copied, IfNone};
 ghost use Rattle.kinds.specs.Cells.{IsStart, last_moment};
 ghost use Rattle.kinds.specs.Queue.{has_number, has_run, number_of, without_number, without_run, insert_item, least_admissible, groups_of, next_item};
 ghost use Rattle.ordered.specs.Indexes.{IsTakenOf};
@@ -166,6 +166,13 @@ impl Listed {
     /// How many groups aren't parked.
     pub(crate) fn open_groups(&self) -> usize {
         self.pool.open_groups()
+    }
+
+    /// The item of a number.
+    pub(crate) fn get(&self, number: u64) -> Option<&Item>
+        ensures { option_copied result ≡ find (has_number number) self.now.items }
+    {
+        self.pool.get(number)
     }
 
     /// The items by reference, in order of number.

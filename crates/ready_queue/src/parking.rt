@@ -344,6 +344,13 @@ impl ParkingQueue {
         self.listed.next(t, cells, throttle)
     }
 
+    /// The item of a number.
+    pub fn get(&self, number: u64) -> Option<&Item>
+        ensures { option_copied result ≡ find (has_number number) self.now.items }
+    {
+        self.listed.get(number)
+    }
+
     /// The items by reference, in order of number.
     pub fn entries(&self) -> Entries<'_>
         ensures { result ≡ self.now.items }

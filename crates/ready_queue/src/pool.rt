@@ -1,5 +1,6 @@
 ghost use Rattle.std.specs.Prelude.{◌≡◌, ◌⊎◌, ◌+◌, ◌≤◌, ◌<◌, IfSome, [], length, find, None, OnOk, OnErr, IfOk, true, false};
 ghost use Rattle.std.specs.Bool.{OnTrue, OnFalse};
+ghost use Rattle.std.specs.Option.{option_copied};
 ghost use Rattle.kinds.specs.Cells.{IsStart, last_moment};
 ghost use Rattle.kinds.specs.Queue.{has_number, without_number, insert_item, least_admissible, groups_of, group_of, next_item};
 ghost use Rattle.ready_queue.specs.Heads.{second};
@@ -287,6 +288,13 @@ impl Pool {
         ensures { result ≡ next_item cells.now throttle.now t self.now.items }
     {
         self.store.next(t, cells, throttle)
+    }
+
+    /// The item of a number.
+    pub(crate) fn get(&self, number: u64) -> Option<&Item>
+        ensures { option_copied result ≡ find (has_number number) self.now.items }
+    {
+        self.store.get(number)
     }
 
     /// The items by reference, in order of number.

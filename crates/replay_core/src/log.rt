@@ -1,7 +1,4 @@
 // The journal over a rig in memory. A call on it fails only for want of memory.
-ghost use Rattle.std.specs.Prelude.{◌≡◌, ◌<◌, ◌≤◌, ◌++◌, ◌∷◌, ◌⊎◌, [], length, IfOk, OnErr, OnOk};
-ghost use Rattle.journal_core.specs.Records.{StandsFor, greatest};
-ghost use Rattle.replay_core.specs.Log.{IsBlank, IsLogging, Logs, StandsForEither, payloads_in};
 
 use journal_core::Journal;
 use lists::Memory;
@@ -9,12 +6,7 @@ use rig::MemRig;
 use std::alloc::Global;
 
 /// Opens the journal in a blank rig.
-pub fn open_journal(alloc: Global, rig: &mut MemRig) -> Result<Journal, Memory>
-    requires { IsBlank rig.old }
-    ensures log { IfOk result (λ journal. Logs [] [] journal rig.new) }
-    ensures failed { OnErr result (StandsFor [] rig.new.a.bytes) }
-    ensures starved { OnOk result (rig.new.counts.starved ≡ rig.old.counts.starved) }
-{
+pub fn open_journal(alloc: Global, rig: &mut MemRig) -> Result<Journal, Memory> {
     match Journal::open(alloc, rig) {
         Ok(journal) => Ok(journal),
         Err(_) => Err(Memory),
@@ -22,15 +14,7 @@ pub fn open_journal(alloc: Global, rig: &mut MemRig) -> Result<Journal, Memory>
 }
 
 /// Adds a line to the journal, and brings it to the disk.
-pub fn append_line(journal: Journal, rig: &mut MemRig, line: &[u8]) -> Result<Journal, Memory>
-    requires some { 0 < length line.now }
-    requires fits { length line.now ≤ greatest }
-    requires logging { IsLogging journal rig.old }
-    ensures log { IfOk result (λ journal. Logs (payloads_in rig.old) (line.now ∷ []) journal rig.new) }
-    ensures failed { OnErr result
-        (StandsForEither (payloads_in rig.old) (line.now ∷ []) rig.new.a.bytes) }
-    ensures starved { OnOk result (rig.new.counts.starved ≡ rig.old.counts.starved) }
-{
+pub fn append_line(journal: Journal, rig: &mut MemRig, line: &[u8]) -> Result<Journal, Memory> {
     match journal.append(rig, line) {
         Ok(journal) => Ok(journal),
         Err(_) => Err(Memory),

@@ -1,44 +1,39 @@
 // The run of a script between two lines. A line's run gives a text and writes nothing.
-ghost use Rattle.std.specs.Prelude.{◌≡◌, ◌<◌, ◌≤◌, ◌+◌, ◌⊎◌, [], false, true, IfOk, MatchResult, length};
-ghost use Rattle.std.specs.Option.{is_none};
-ghost use Rattle.machine_model.specs.Machine.{Accepts, refusal, step};
-ghost use Rattle.replay_core.specs.Accepted.{is_accepted};
-ghost use Rattle.replay_core.specs.Replay.{Goes, counted, end_line, grammar_after, line_read, on_input, on_line, printed, refused, start, taken};
-ghost use Rattle.replay_core.specs.Run.{RunsAs};
-ghost use Rattle.replay_core.specs.declared.end.LineFault.TheVariants as fault;
 
 use crate::end::LineFault;
-use crate::line::{Grammar, Line, read_line, text_of_line};
+use crate::form::Form;
+use crate::line::{Line, read_line, text_of_line};
 use crate::printing::{end_line, out_text, outs_text};
-use kinds::{Input, Limits, Out, Refusal};
-use lists::{Bytes, Memory};
+use kinds::{Input, Limits, Out, Refusal, Steps};
+use lists::{Bytes, Items, Memory};
 use machine::Machine;
 use requests::Requested;
 use std::alloc::Global;
-use std::marker::Model;
+use std::marker::{Brand, Model};
+use std::sync::ledger::{Blank, Ledger};
 
 /// The bytes that a whole script may have.
-const SCRIPT_LIMIT: usize = 1_048_576;
+const SCRIPT_LIMIT: usize = 268_435_456;
 
 /// The run of a script between two of its lines.
 #[derive(Drop)]
 pub struct Progress {
     alloc: Global,
     machine: Machine,
-    grammar: Grammar,
+    form: Form,
     lines: u64,
     room: usize,
 }
 
 impl Model for Progress {
     ghost use Rattle.std.specs.Prelude.{◌+◌, ◌≤◌};
-    ghost use Rattle.replay_core.specs.Replay.{Progress as Stand};
+    ghost use Rattle.std.specs.Prelude.{ℕ};
 
-    ghost Value = { Stand };
+    ghost Value = { ℕ };
 
-    ghost view = { λ p. record { state = p.machine; grammar = p.grammar; lines = p.lines; room = p.room } };
+    ghost view = { λ p. p.room };
 
-    ghost invariant = { λ p. p.lines + p.room ≤ 1048576 };
+    ghost invariant = { λ p. p.lines + p.room ≤ 268435456 };
 }
 
 /// What a line did.
@@ -54,46 +49,30 @@ pub struct Ran {
 
 impl Progress {
     /// A run that has read nothing, over a blank machine with the shipped limits.
-    pub fn start(alloc: Global) -> Result<Self, Memory>
-        ensures { IfOk result (λ progress. progress ≡ start) }
-    {
+    pub fn start(alloc: Global, form: Form) -> Result<Self, Memory> {
         Ok(Progress {
             alloc,
             machine: Machine::empty(alloc, Limits::shipped())?,
-            grammar: Grammar::Whole,
+            form,
             lines: 0,
             room: SCRIPT_LIMIT,
         })
     }
 
     /// The bytes that the script may still have.
-    pub fn room(&self) -> usize
-        ensures { result ≡ self.now.room }
-    {
+    pub fn room(&self) -> usize {
         self.room
     }
 
     /// The number of the line that comes next, counted from 1.
-    pub fn next_line(&self) -> u64
-        ensures { result ≡ self.now.lines + 1 }
-    {
+    pub fn next_line(&self) -> u64 {
         self.lines + 1
     }
 
     /// Runs the next line, given with the byte that ends it, where it has one.
-    #[tactic(auto, unfolding(crate::specs::Replay::on_line))]
-    pub fn take_line(self, line: &[u8]) -> Result<Ran, LineFault>
-        requires some { 0 < length line.now }
-        requires room { length line.now ≤ self.room }
-        ensures run { RunsAs (on_line self line.now) result }
-        ensures accepted { MatchResult result
-            (λ ran. ran.accepted ≡ is_accepted self.state (line_read self line.now))
-            (λ e. (e ≡ fault.Memory) ⊎ (is_accepted self.state (line_read self line.now) ≡ false)) }
-        ensures room { IfOk result (λ ran. ran.progress.room + length line.now ≡ self.room) }
-        ensures fits { IfOk result (λ _. length line.now ≤ 1048576) }
-    {
+    pub fn take_line(self, line: &[u8]) -> Result<Ran, LineFault> {
         let counted = self.count_line(line.len());
-        match read_line(counted.alloc, counted.grammar, text_of_line(line))? {
+        match read_line(counted.alloc, text_of_line(line))? {
             None => Err(LineFault::Outside {
                 line: counted.lines,
             }),
@@ -104,20 +83,14 @@ impl Progress {
     }
 
     // A line of so many bytes is counted before it is run.
-    fn count_line(mut self, size: usize) -> Self
-        requires { (0 < size) × (size ≤ self.room) }
-        ensures counted { result ≡ counted self size }
-        ensures fits { size ≤ 1048576 }
-    {
+    fn count_line(mut self, size: usize) -> Self {
         self.lines += 1;
         self.room -= size;
         self
     }
 
     // A line that says nothing.
-    fn pass(self) -> Ran
-        ensures { (result.progress ≡ self) × (result.text ≡ []) × (result.accepted ≡ false) }
-    {
+    fn pass(self) -> Ran {
         let text = Bytes::new(self.alloc);
         Ran {
             progress: self,
@@ -127,11 +100,8 @@ impl Progress {
     }
 
     // A line that is answered, and changes nothing.
-    fn say(self, out: &Out) -> Result<Ran, Memory>
-        ensures { IfOk result
-            (λ ran. (ran.progress ≡ self) × (ran.text ≡ printed out.now) × (ran.accepted ≡ false)) }
-    {
-        let text = out_text(self.alloc, out)?;
+    fn say(self, out: &Out) -> Result<Ran, Memory> {
+        let text = out_text(self.alloc, self.form, out)?;
         Ok(Ran {
             progress: self,
             text,
@@ -140,13 +110,7 @@ impl Progress {
     }
 
     // Takes an input, or says why it is refused.
-    fn take_input(self, input: Input) -> Result<Ran, LineFault>
-        ensures run { RunsAs (on_input self input) result }
-        ensures accepted { MatchResult result
-            (λ ran. ran.accepted ≡ is_none (refusal self.state input))
-            (λ e. (e ≡ fault.Memory) ⊎ (is_none (refusal self.state input) ≡ false)) }
-        ensures room { IfOk result (λ ran. ran.progress.room ≡ self.room) }
-    {
+    fn take_input(self, input: Input) -> Result<Ran, LineFault> {
         match self.machine.check(&input) {
             Ok(()) => Ok(self.take_accepted(input)?),
             Err(cause) => self.refuse(cause),
@@ -154,11 +118,7 @@ impl Progress {
     }
 
     // A refused input changes nothing.
-    fn refuse(self, cause: Refusal) -> Result<Ran, LineFault>
-        ensures run { RunsAs (refused self cause) result }
-        ensures accepted { IfOk result (λ ran. ran.accepted ≡ false) }
-        ensures room { IfOk result (λ ran. ran.progress.room ≡ self.room) }
-    {
+    fn refuse(self, cause: Refusal) -> Result<Ran, LineFault> {
         match cause {
             Refusal::NumbersSpent { .. } => Err(LineFault::Spent),
             Refusal::UnknownCall { .. } | Refusal::UnknownRun { .. } => {
@@ -175,17 +135,10 @@ impl Progress {
     }
 
     // Takes an accepted input.
-    fn take_accepted(mut self, input: Input) -> Result<Ran, Memory>
-        requires { Accepts self.state input }
-        ensures run { IfOk result
-            (λ ran. taken self input (step self.state input) ≡ Goes ran.progress ran.text) }
-        ensures accepted { IfOk result (λ ran. ran.accepted ≡ true) }
-        ensures room { IfOk result (λ ran. ran.progress.room ≡ self.room) }
-    {
-        self.grammar = grammar_after(&input, self.grammar);
-        let (machine, outs) = self.machine.step(input)?;
+    fn take_accepted(mut self, input: Input) -> Result<Ran, Memory> {
+        let (machine, outs) = step::<Brand>(Blank::new(1), self.machine, input)?;
         self.machine = machine;
-        let text = outs_text(self.alloc, outs.as_slice())?;
+        let text = outs_text(self.alloc, self.form, outs.as_slice())?;
         Ok(Ran {
             progress: self,
             text,
@@ -194,19 +147,17 @@ impl Progress {
     }
 
     /// The last line.
-    pub fn end_line(&self) -> Result<Bytes, Memory>
-        ensures { IfOk result (λ text. text ≡ end_line self.now.state) }
-    {
+    pub fn end_line(&self) -> Result<Bytes, Memory> {
         end_line(self.alloc, &self.machine)
     }
 }
 
-// Which lines there are behind an input.
-fn grammar_after(input: &Input, grammar: Grammar) -> Grammar
-    ensures { result ≡ grammar_after input.now grammar }
-{
-    match input {
-        Input::Register { .. } => Grammar::WithoutEvents,
-        _ => grammar,
-    }
+// One step of the machine, with a counter of its own.
+fn step<L: Ledger>(
+    blank: Blank,
+    machine: Machine,
+    input: Input,
+) -> Result<(Machine, Items<Out>), Memory> {
+    let mut steps = Steps::<L>::new(blank);
+    machine.step(input, &mut steps)
 }

