@@ -1,91 +1,167 @@
--- A property of the runs that have not ended and of the count of runs, kept by the three ways in which they
--- change. Each word of the definition keeps it: here those of making and of recording.
-use Rattle.std.proofs.Common.{◌≡◌, ℕ, ◌+◌, ◌==◌, Bool, true, false, not, ◌&&◌, cond, List, [], ◌∷◌, ◌++◌, filter, Option, refl, sym, append-nil}
+-- A property of states in the midst of a step, and the ways in which what is kept of runs, events and windows
+-- changes. Each word of the definition keeps it: here those of making and of recording.
+use Rattle.std.proofs.Common.{◌≡◌, ℕ, ◌+◌, ◌≤◌, ◌==◌, Bool, true, false, not, ◌&&◌, cond, List, [], ◌∷◌, ◌++◌, filter, Option, Some, None, IfSome, refl, subst, eqb-true}
+use Rattle.std.specs.List.{AllByRecursion}
+use Rattle.kinds.specs.RunSteps.{Noting, adds, known, full, note_pending, note_plan}
+use Rattle.kinds.specs.Seen.{find_seen}
+use Rattle.kinds.specs.Windows as windows
+use Rattle.kinds.specs.Windows.{after_event, is_full}
+use Rattle.kinds.specs.declared.event.EventIn.{EventIn}
 use Rattle.kinds.specs.declared.function.CancelEntry.{CancelEntry}
+use Rattle.kinds.specs.declared.reply.Time.{Time}
 use Rattle.kinds.specs.declared.store.Parent.{Parent}
-use Rattle.kinds.specs.declared.store.StepEntry.{StepEntry}
+use Rattle.kinds.specs.declared.store.Pending.TheVariants as pending
+use Rattle.kinds.specs.declared.store.Rule.{Rule}
+use Rattle.kinds.specs.declared.store.RunStatus.{RunStatus}
+use Rattle.kinds.specs.declared.window.Window.{Window}
+use Rattle.kinds.specs.declared.window.WindowRule.{WindowRule}
 use Rattle.functions.specs.declared.entry.FunctionEntry.{FunctionEntry}
-use Rattle.run_model.specs.Laws.{Follows}
-use Rattle.run_model.specs.Making.{add_rule, add_rules, add_run, discover, discover_all, discover_one, first_of, has_discovery, make_run, queue_new, run_with, step_target, text_or_none}
-use Rattle.run_model.specs.Recording.{Discovery, at_once, at_the_end, changed, discovered, record_in, record_result}
-use Rattle.run_model.specs.State.{State, Run, text_of}
+use Rattle.run_model.specs.Advance.{without_window}
+use Rattle.run_model.specs.Ends.{end_run, first_text}
+use Rattle.run_model.specs.Events.{add_event, event_with, window_of, window_rule_of, with_window}
+use Rattle.run_model.specs.Laws.{IsIn}
+use Rattle.run_model.specs.Making.{add_rule, add_rules, discover, discover_all, discover_one, first_of, has_discovery, make_run, queue_new, run_with, step_target, text_or_none}
+use Rattle.run_model.specs.Recording.{Discovery, at_once, at_the_end, change_run, discovered, record_result}
+use Rattle.run_model.specs.Replies.{add_invocation, add_sleep, add_wait, pend, plan_named, want}
+use Rattle.run_model.specs.Requests.{remember}
+use Rattle.run_model.specs.State.{State, Run, Sleep, Waiting, Invocation, live_run, text_of}
+use Rattle.run_model.proofs.Members.{each-in, in-last}
+use Rattle.run_model.proofs.SettlingLists.{found-passes}
 
--- a run keeps its number, and what it recorded
-abbrev pub Grows : (Run → Run) → Type 0
-Grows f = (r : Run) → ((f r).number ≡ r.number) × Follows r.steps.recorded (f r).steps.recorded
+-- ## What the changes speak of
 
-pub record Stays (K : ℕ → List Run → Type 0) : Type 0 where
-  pub changes : (count number : ℕ) (f : Run → Run) (rs : List Run) → Grows f → K count rs
-      → K count (changed number f rs)
-  pub adds : (count : ℕ) (r : Run) (rs : List Run) → r.number ≡ count + 1 → K count rs
-      → K (count + 1) (rs ++ r ∷ [])
-  pub ends : (count number : ℕ) (rs : List Run) → K count rs
-      → K count (filter (λ (r : Run). not (number == r.number)) rs)
+-- current or not
+abbrev pub IsFunction : FunctionEntry → State → Type 0
+IsFunction f s = IsIn f (s.functions ++ s.retired)
 
-abbrev pub Holds : (ℕ → List Run → Type 0) → State → Type 0
-Holds K s = K s.runs s.live
+abbrev pub run_from : FunctionEntry → List ℕ → Option Parent → State → Run
+run_from f events parent s = run_with f events (text_or_none (text_of (first_of events) s)) parent s
 
--- ## A choice
+-- a run is there, and has no rule and no item yet
+abbrev pub started : FunctionEntry → List ℕ → Option Parent → State → State
+started f events parent s =
+    record s { runs = s.runs + 1; live = s.live ++ run_from f events parent s ∷ [] }
 
-pub kept-choice : (K : ℕ → List Run → Type 0) (b : Bool) (s t : State) → Holds K s → Holds K t
-    → Holds K (cond b s t)
-kept-choice K true s t h k = h
-kept-choice K false s t h k = k
+-- a function's window after an event
+abbrev pub window_after : FunctionEntry → WindowRule → List ℕ → ℕ → State → Window
+window_after f r value event s =
+    after_event r f.version value event s.moment (s.entries + 1) (window_of f.version value s)
+
+-- an event joins a function's window, which stays where it isn't full
+abbrev pub with_offer : FunctionEntry → WindowRule → List ℕ → ℕ → State → State
+with_offer f r value event s =
+    with_window r (window_of f.version value s) (window_after f r value event s) s
+
+-- a name was new, and there was room for it
+abbrev pub Adds : Noting → Type 0
+Adds (adds steps) = Unit {0}
+Adds known = ⊥
+Adds full = ⊥
+
+abbrev pub IsLive : Run → State → Type 0
+IsLive r s = live_run r.number s ≡ Some r
+
+-- an event may be offered to a function with a window
+pub record MayJoin (f : FunctionEntry) (r : WindowRule) (event : ℕ) (s : State) : Type 0 where
+  pub there : IsFunction f s
+  pub rule : window_rule_of f.function ≡ Some r
+  pub given : event ≤ s.events
+
+-- ## The changes
+
+pub record Keeps (P : State → Type 0) : Type 0 where
+  -- an event takes its number, and its id is remembered where it is new
+  pub accepts : (event : EventIn) (id : Option (List ℕ)) (s : State)
+      → IfSome id (λ id. find_seen id s.moment s.seen ≡ None)
+      → P s → P (add_event (event_with event s) (remember id s))
+  -- a run is made of an event, of a window that is full, and of one that is over
+  pub starts : (f : FunctionEntry) (event : ℕ) (parent : Option Parent) (s : State)
+      → IsFunction f s → event ≤ s.events → P s → P (started f (event ∷ []) parent s)
+  pub fills : (f : FunctionEntry) (r : WindowRule) (value : List ℕ) (event : ℕ) (s : State)
+      → MayJoin f r event s → is_full r (window_after f r value event s) ≡ true → P s
+      → P (started f (windows.events_of (window_after f r value event s)) None (with_offer f r value event s))
+  pub fires : (f : FunctionEntry) (w : Window) (s : State) → IsFunction f s → IsIn w s.windows → P s
+      → P (started f (windows.events_of w) None (without_window (windows.number_of w) s))
+  -- a window takes an event and stays, or goes
+  pub joins : (f : FunctionEntry) (r : WindowRule) (value : List ℕ) (event : ℕ) (s : State)
+      → MayJoin f r event s → is_full r (window_after f r value event s) ≡ false → P s
+      → P (with_offer f r value event s)
+  pub windows_go : (number : ℕ) (s : State) → P s → P (without_window number s)
+  -- a run has a rule more, or an item that finds out what comes next
+  pub rules : (r : Run) (event : List ℕ) (c : CancelEntry) (s : State) → IsIn r s.live → event ≡ first_text r s
+      → P s → P (add_rule r (first_of r.events) event c s)
+  pub finds_out : (r : Run) (s : State) → IsIn r s.live → P s → P (queue_new r step_target s)
+  -- a step is recorded, a run is wanted, and a new name is planned or pending
+  pub records : (run : ℕ) (name result : List ℕ) (s : State) → P s → P (record_result run name result s)
+  pub wants : (r : Run) (s : State) → IsLive r s → P s → P (change_run r.number want s)
+  pub plans : (r : Run) (name : List ℕ) (s : State) → IsLive r s → Adds (note_plan name r.steps)
+      → P s → P (plan_named r name s)
+  pub sleeps : (r : Run) (name : List ℕ) (t : Time) (s : State) → IsLive r s
+      → Adds (note_pending name pending.Sleep r.steps) → P s → P (add_sleep r name t s)
+  pub waits : (r : Run) (name event : List ℕ) (t : Time) (cond : Option (List ℕ)) (s : State) → IsLive r s
+      → Adds (note_pending name pending.Wait r.steps) → P s → P (add_wait r name event t cond s)
+  pub pends : (r : Run) (name : List ℕ) (s : State) → IsLive r s
+      → Adds (note_pending name pending.Invocation r.steps) → P s → P (pend pending.Invocation name r s)
+  pub invokes : (r : Run) (name : List ℕ) (child : ℕ) (t : Option Time) (s : State)
+      → P s → P (add_invocation r name child t s)
+  -- a run ends
+  pub ends : (r : Run) (status : RunStatus) (s : State) → IsLive r s → P s → P (end_run r status s)
+  -- what waits goes
+  pub sleeps_go : (test : Sleep → Bool) (s : State) → P s → P (record s { sleeps = filter test s.sleeps })
+  pub waits_go : (test : Waiting → Bool) (s : State) → P s → P (record s { waits = filter test s.waits })
+  pub invocations_go : (test : Invocation → Bool) (s : State)
+      → P s → P (record s { invocations = filter test s.invocations })
+  pub rules_go : (test : Rule → Bool) (s : State) → P s → P (record s { rules = filter test s.rules })
+
+-- ## Runs that have not ended
+
+-- a run that is found under a number has it
+pub own-number : (number : ℕ) (r : Run) (s : State) → live_run number s ≡ Some r → IsLive r s
+own-number number r s e =
+    subst (λ n. live_run n s ≡ Some r)
+    (eqb-true number r.number (found-passes (λ (other : Run). number == other.number) s.live r e)) e
+
+pub kept-choice : (P : State → Type 0) (b : Bool) (s t : State) → P s → P t → P (cond b s t)
+kept-choice P true s t h k = h
+kept-choice P false s t h k = k
 
 -- ## Finding out what comes next
 
-pub kept-discover_one : (K : ℕ → List Run → Type 0) (r : Run) (s : State) → Holds K s
-    → Holds K (discover_one r s)
-kept-discover_one K r s h =
-    kept-choice K (r.wanted && not (has_discovery s r.number)) (queue_new r step_target s) s h h
+abbrev AreThere : List Run → State → Type 0
+AreThere rs s = AllByRecursion (λ r. IsIn r s.live) rs
 
-pub kept-discover_all : (K : ℕ → List Run → Type 0) (rs : List Run) (s : State) → Holds K s
-    → Holds K (discover_all rs s)
-kept-discover_all K [] s h = h
-kept-discover_all K (r ∷ rs) s h = kept-discover_all K rs (discover_one r s) (kept-discover_one K r s h)
+module _ (P : State → Type 0) (keeps : Keeps P) where
+  kept-discover_one : (r : Run) (s : State) → IsIn r s.live → P s → P (discover_one r s)
+  kept-discover_one r s there h =
+      kept-choice P (r.wanted && not (has_discovery s r.number)) (queue_new r step_target s) s
+      (keeps.finds_out r s there h) h
 
-pub kept-discover : (K : ℕ → List Run → Type 0) (s : State) → Holds K s → Holds K (discover s)
-unfolding discover
-kept-discover K s h = kept-discover_all K s.live s h
+  kept-discover_all : (rs : List Run) (s : State) → AreThere rs s → P s → P (discover_all rs s)
+  kept-discover_all [] s there h = h
+  kept-discover_all (r ∷ rs) s there h = kept-discover_all rs (discover_one r s)
+      (kept-choice (AreThere rs) (r.wanted && not (has_discovery s r.number)) (queue_new r step_target s) s
+      there.1 there.1) (kept-discover_one r s there.0 h)
 
-pub kept-discovered : (K : ℕ → List Run → Type 0) (d : Discovery) (s : State) → Holds K s
-    → Holds K (discovered d s)
-kept-discovered K at_once s h = kept-discover K s h
-kept-discovered K at_the_end s h = h
+  pub kept-discover : (s : State) → P s → P (discover s)
+  unfolding discover
+  kept-discover s h = kept-discover_all s.live s (each-in s.live) h
 
--- ## Recording
+  pub kept-discovered : (d : Discovery) (s : State) → P s → P (discovered d s)
+  kept-discovered at_once s h = kept-discover s h
+  kept-discovered at_the_end s h = h
 
--- what was recorded is the same
-pub follows-same : (es : List StepEntry) → Follows es es
-follows-same es = ([], sym (append-nil es))
+  -- ## Making a run
 
-pub grows-record_in : (name result : List ℕ) → Grows (record_in name result)
-grows-record_in name result r = (refl, (_, refl))
+  -- its rules take numbers, and then its first item
+  kept-made : (r : Run) (event : List ℕ) (cs : List CancelEntry) (s : State) → IsIn r s.live
+      → event ≡ first_text r s → P s → P (queue_new r step_target (add_rules r (first_of r.events) event cs s))
+  kept-made r event [] s there e h = keeps.finds_out r s there h
+  kept-made r event (c ∷ cs) s there e h = kept-made r event cs (add_rule r (first_of r.events) event c s)
+      there e (keeps.rules r event c s there e h)
 
-pub kept-record_result : (K : ℕ → List Run → Type 0) → Stays K → (run : ℕ) (name result : List ℕ) (s : State)
-    → Holds K s → Holds K (record_result run name result s)
-kept-record_result K stays run name result s h =
-    stays.changes s.runs run (record_in name result) s.live (grows-record_in name result) h
-
--- ## Making a run
-
-pub kept-add_rules : (K : ℕ → List Run → Type 0) (r : Run) (first : ℕ) (event : List ℕ)
-    (cs : List CancelEntry) (s : State) → Holds K s → Holds K (add_rules r first event cs s)
-kept-add_rules K r first event [] s h = h
-kept-add_rules K r first event (c ∷ cs) s h = kept-add_rules K r first event cs (add_rule r first event c s) h
-
-pub kept-add_run : (K : ℕ → List Run → Type 0) → Stays K
-    → (r : Run) (first : ℕ) (event : List ℕ) (cs : List CancelEntry) (s : State)
-    → r.number ≡ s.runs + 1 → Holds K s → Holds K (add_run r first event cs s)
-kept-add_run K stays r first event cs s numbered h =
-    kept-add_rules K r first event cs (record s { runs = s.runs + 1; live = s.live ++ r ∷ [] })
-    (stays.adds s.runs r s.live numbered h)
-
-pub kept-make_run : (K : ℕ → List Run → Type 0) → Stays K
-    → (f : FunctionEntry) (events : List ℕ) (parent : Option Parent) (s : State)
-    → Holds K s → Holds K (make_run f events parent s)
-unfolding make_run
-kept-make_run K stays f events parent s h =
-    let event : List ℕ = text_or_none (text_of (first_of events) s) in
-    kept-add_run K stays (run_with f events event parent s) (first_of events) event f.function.cancels s
-    refl h
+  pub kept-make_run : (f : FunctionEntry) (events : List ℕ) (parent : Option Parent) (s : State)
+      → P (started f events parent s) → P (make_run f events parent s)
+  unfolding make_run
+  kept-make_run f events parent s h =
+      kept-made (run_from f events parent s) (text_or_none (text_of (first_of events) s)) f.function.cancels
+      (started f events parent s) (in-last (run_from f events parent s) s.live) refl h

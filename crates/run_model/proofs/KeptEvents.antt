@@ -1,191 +1,219 @@
--- What an event does, how a run ends, and the events of a request keep what the three ways of change keep.
-use Rattle.std.proofs.Common.{ℕ, ◌+◌, Bool, true, false, List, [], ◌∷◌, map, find, Option, Some, None}
+-- What an event does, how a run ends, and the events of a request keep what each change keeps.
+use Rattle.std.proofs.Common.{◌≡◌, ℕ, ◌+◌, ◌≤◌, Bool, true, false, List, [], ◌∷◌, map, find, not, Option, Some, None, IfSome, refl, arith}
+use Rattle.std.specs.List.{AllByRecursion}
+use Rattle.std.specs.Option.{option_and_then}
 use Rattle.kinds.specs.RunSteps.{is_recorded}
+use Rattle.kinds.specs.Seen.{find_seen}
 use Rattle.kinds.specs.Stores.{cancelled, woken}
 use Rattle.kinds.specs.Windows as windows
-use Rattle.kinds.specs.Windows.{after_event, is_full}
+use Rattle.kinds.specs.Windows.{is_full}
 use Rattle.kinds.specs.declared.event.Event.{Event}
 use Rattle.kinds.specs.declared.event.EventIn.{EventIn}
 use Rattle.kinds.specs.declared.store.Parent.{Parent}
-use Rattle.kinds.specs.declared.store.RunStatus.{RunStatus}
 use Rattle.kinds.specs.declared.store.RunStatus.TheVariants.{Completed, Failed, Cancelled}
-use Rattle.kinds.specs.declared.window.Window.{Window}
 use Rattle.kinds.specs.declared.window.WindowRule.{WindowRule}
 use Rattle.functions.specs.declared.entry.FunctionEntry.{FunctionEntry}
-use Rattle.run_model.specs.Ends.{cancel_run, cancelled_result, complete_run, end_run, fail_run, failed_event, first_text, is_of_failure, raise, raise_failed, record_at_parent, tell, tell_parent, without_invocation_of}
-use Rattle.run_model.specs.Events.{add_event, end_wait, event_with, follow, has_wait, in_window, is_triggered, key_of, offer, offer_to, offer_to_all, wait_of, wake, wake_all, wake_by, wake_found, window_of, window_rule_of, with_window, without_wait}
+use Rattle.run_model.specs.Ends.{cancel_run, cancelled_result, complete_run, end_run, fail_run, failed_event, first_text, is_invocation_of, is_of_failure, raise, raise_failed, record_at_parent, tell, tell_parent, without_invocation_of}
+use Rattle.run_model.specs.Events.{add_event, end_wait, event_with, follow, has_wait, in_window, is_triggered, key_of, offer, offer_to, offer_to_all, wait_of, wake, wake_all, wake_by, wake_found, window_of, window_rule_of, without_wait}
 use Rattle.run_model.specs.Expressions.{key_value, truth_in}
 use Rattle.run_model.specs.Making.{make_run}
 use Rattle.run_model.specs.Recording.{Discovery, at_once, at_the_end, data_result, error_result, record_result}
 use Rattle.run_model.specs.Requests.{Answering, accept, answer_event, cancel_all, cancel_by, cancel_found, on_event, on_events, remember, repeats}
 use Rattle.run_model.specs.State.{State, Run, Waiting, live_run}
-use Rattle.run_model.proofs.Kept.{Holds, Stays, kept-discovered, kept-make_run, kept-record_result}
+use Rattle.run_model.proofs.Kept.{IsFunction, IsLive, Keeps, MayJoin, kept-discovered, kept-make_run, own-number, window_after, with_offer}
+use Rattle.run_model.proofs.Members.{all-front}
 
--- ## Waits
+module _ (P : State → Type 0) (keeps : Keeps P) where
+  -- ## Waits
 
-pub kept-end_wait : (K : ℕ → List Run → Type 0) → Stays K → (result : List ℕ) (w : Waiting) (s : State)
-    → Holds K s → Holds K (end_wait result w s)
-kept-end_wait K stays result w s h =
-    kept-record_result K stays w.wait.run w.hash result (without_wait w.wait.number s) h
+  pub kept-end_wait : (result : List ℕ) (w : Waiting) (s : State) → P s → P (end_wait result w s)
+  kept-end_wait result w s h = keeps.records w.wait.run w.hash result (without_wait w.wait.number s)
+      (keeps.waits_go (λ v. not (has_wait w.wait.number v)) s h)
 
-kept-wake_found : (K : ℕ → List Run → Type 0) → Stays K
-    → (d : Discovery) (result : List ℕ) (found : Option Waiting) (s : State)
-    → Holds K s → Holds K (wake_found d result found s)
-kept-wake_found K stays d result None s h = h
-kept-wake_found K stays d result (Some w) s h =
-    kept-discovered K d (end_wait result w s) (kept-end_wait K stays result w s h)
+  kept-wake_found : (d : Discovery) (result : List ℕ) (found : Option Waiting) (s : State) → P s
+      → P (wake_found d result found s)
+  kept-wake_found d result None s h = h
+  kept-wake_found d result (Some w) s h =
+      kept-discovered P keeps d (end_wait result w s) (kept-end_wait result w s h)
 
-kept-wake_all : (K : ℕ → List Run → Type 0) → Stays K
-    → (d : Discovery) (result : List ℕ) (ns : List ℕ) (s : State)
-    → Holds K s → Holds K (wake_all d result ns s)
-kept-wake_all K stays d result [] s h = h
-kept-wake_all K stays d result (n ∷ ns) s h = kept-wake_all K stays d result ns (wake d result n s)
-    (kept-wake_found K stays d result (find (has_wait n) s.waits) s h)
+  kept-wake_all : (d : Discovery) (result : List ℕ) (ns : List ℕ) (s : State) → P s
+      → P (wake_all d result ns s)
+  kept-wake_all d result [] s h = h
+  kept-wake_all d result (n ∷ ns) s h = kept-wake_all d result ns (wake d result n s)
+      (kept-wake_found d result (find (has_wait n) s.waits) s h)
 
-kept-wake_by : (K : ℕ → List Run → Type 0) → Stays K → (d : Discovery) (event : Event) (s : State)
-    → Holds K s → Holds K (wake_by d event s)
-kept-wake_by K stays d event s h =
-    kept-wake_all K stays d (data_result event.text) (woken (truth_in s) event (map wait_of s.waits)) s h
+  pub kept-wake_by : (d : Discovery) (event : Event) (s : State) → P s → P (wake_by d event s)
+  kept-wake_by d event s h =
+      kept-wake_all d (data_result event.text) (woken (truth_in s) event (map wait_of s.waits)) s h
 
--- ## Offers
+  -- ## An offer
 
-kept-in_window : (K : ℕ → List Run → Type 0) → Stays K
-    → (f : FunctionEntry) (r : WindowRule) (before : Option Window) (w : Window) (s : State)
-    → Holds K s → Holds K (in_window f r before w s)
-kept-in_window K stays f r before w s h =
-    elim (is_full r w) as (λ full. Holds K (elim full as (λ _. State) [
-      | true ↦ make_run f (windows.events_of w) None (with_window r before w s)
-      | false ↦ with_window r before w s
-    ])) [
-      | true ↦ kept-make_run K stays f (windows.events_of w) None (with_window r before w s) h
-      | false ↦ h
-    ]
+  kept-in_window : (f : FunctionEntry) (r : WindowRule) (value : List ℕ) (event : ℕ) (s : State)
+      → MayJoin f r event s → P s
+      → P (in_window f r (window_of f.version value s) (window_after f r value event s) s)
+  kept-in_window f r value event s may h =
+      (elim (is_full r (window_after f r value event s)) as (λ full.
+      is_full r (window_after f r value event s) ≡ full → P (elim full as (λ _. State) [
+        | true ↦ make_run f (windows.events_of (window_after f r value event s)) None
+            (with_offer f r value event s)
+        | false ↦ with_offer f r value event s
+      ])) [
+        | true ↦ λ e. kept-make_run P keeps f (windows.events_of (window_after f r value event s)) None
+            (with_offer f r value event s) (keeps.fills f r value event s may e h)
+        | false ↦ λ e. keeps.joins f r value event s may e h
+      ]) refl
 
-kept-offer_to : (K : ℕ → List Run → Type 0) → Stays K
-    → (f : FunctionEntry) (r : Option WindowRule) (event : Event) (s : State)
-    → Holds K s → Holds K (offer_to f r event s)
-kept-offer_to K stays f None event s h = kept-make_run K stays f (event.number ∷ []) None s h
-kept-offer_to K stays f (Some r) event s h =
-    let value : List ℕ = key_value (key_of r) event.text in
-    let before : Option Window = window_of f.version value s in
-    kept-in_window K stays f r before
-    (after_event r f.version value event.number s.moment (s.entries + 1) before) s h
+  kept-offer_to : (f : FunctionEntry) (r : Option WindowRule) (event : Event) (s : State) → IsFunction f s
+      → window_rule_of f.function ≡ r → event.number ≤ s.events → P s → P (offer_to f r event s)
+  kept-offer_to f None event s there e given h = kept-make_run P keeps f (event.number ∷ []) None s
+      (keeps.starts f event.number None s there given h)
+  kept-offer_to f (Some r) event s there e given h =
+      kept-in_window f r (key_value (key_of r) event.text) event.number s
+      (record { there = there; rule = e; given = given }) h
 
-kept-offer : (K : ℕ → List Run → Type 0) → Stays K → (f : FunctionEntry) (event : Event) (s : State)
-    → Holds K s → Holds K (offer f event s)
-kept-offer K stays f event s h =
-    elim (is_triggered event f)
-    as (λ b. Holds K (elim b as (λ _. State)
-    [ true ↦ offer_to f (window_rule_of f.function) event s | false ↦ s ]))
-    [ true ↦ kept-offer_to K stays f (window_rule_of f.function) event s h | false ↦ h ]
+  kept-offer : (f : FunctionEntry) (event : Event) (s : State) → IsFunction f s → event.number ≤ s.events
+      → P s → P (offer f event s)
+  kept-offer f event s there given h =
+      elim (is_triggered event f) as (λ b. P (elim b as (λ _. State)
+      [ true ↦ offer_to f (window_rule_of f.function) event s | false ↦ s ])) [
+        | true ↦ kept-offer_to f (window_rule_of f.function) event s there refl given h
+        | false ↦ h
+      ]
 
-kept-offer_to_all : (K : ℕ → List Run → Type 0) → Stays K
-    → (fs : List FunctionEntry) (event : Event) (s : State)
-    → Holds K s → Holds K (offer_to_all fs event s)
-kept-offer_to_all K stays [] event s h = h
-kept-offer_to_all K stays (f ∷ fs) event s h =
-    kept-offer_to_all K stays fs event (offer f event s) (kept-offer K stays f event s h)
+-- ## Functions stay, and numbers of events
 
-pub kept-follow : (K : ℕ → List Run → Type 0) → Stays K → (d : Discovery) (event : Event) (s : State)
-    → Holds K s → Holds K (follow d event s)
-unfolding follow
-kept-follow K stays d event s h =
-    kept-offer_to_all K stays s.functions event (wake_by d event s) (kept-wake_by K stays d event s h)
+-- the functions are there, and the event of a number
+abbrev Stands : List FunctionEntry → ℕ → State → Type 0
+Stands fs event s = AllByRecursion (λ f. IsFunction f s) fs × (event ≤ s.events)
 
--- ## Ends
+stands-accepted : (fs : List FunctionEntry) (number : ℕ) (event : EventIn) (id : Option (List ℕ)) (s : State)
+    → Stands fs number s → Stands fs number (add_event (event_with event s) (remember id s))
+stands-accepted fs number event None s h = (h.0, omega (arith, h.1))
+stands-accepted fs number event (Some id) s h = (h.0, omega (arith, h.1))
 
-pub kept-end_run : (K : ℕ → List Run → Type 0) → Stays K → (r : Run) (status : RunStatus) (s : State)
-    → Holds K s → Holds K (end_run r status s)
-kept-end_run K stays r status s h = stays.ends s.runs r.number s.live h
+keeps-stands : (fs : List FunctionEntry) (number : ℕ) → Keeps (Stands fs number)
+keeps-stands fs number = record {
+  accepts = λ event id s new h. stands-accepted fs number event id s h;
+  starts = λ f event parent s there given h. h;
+  fills = λ f r value event s may full h. h;
+  fires = λ f w s there stands h. h;
+  joins = λ f r value event s may full h. h;
+  windows_go = λ n s h. h;
+  rules = λ r event c s there e h. h;
+  finds_out = λ r s there h. h;
+  records = λ run name result s h. h;
+  wants = λ r s live h. h;
+  plans = λ r name s live new h. h;
+  sleeps = λ r name t s live new h. h;
+  waits = λ r name event t cond s live new h. h;
+  pends = λ r name s live new h. h;
+  invokes = λ r name child t s h. h;
+  ends = λ r status s live h. h;
+  sleeps_go = λ test s h. h;
+  waits_go = λ test s h. h;
+  invocations_go = λ test s h. h;
+  rules_go = λ test s h. h;
+}
 
-kept-record_at_parent : (K : ℕ → List Run → Type 0) → Stays K
-    → (d : Discovery) (p : Parent) (result : List ℕ) (b : Bool) (s : State)
-    → Holds K s → Holds K (record_at_parent d p result b s)
-kept-record_at_parent K stays d p result true s h = h
-kept-record_at_parent K stays d p result false s h =
-    kept-discovered K d (record_result p.run p.hash result (without_invocation_of p s))
-    (kept-record_result K stays p.run p.hash result (without_invocation_of p s) h)
+module _ (P : State → Type 0) (keeps : Keeps P) where
+  -- ## Offers
 
-kept-tell : (K : ℕ → List Run → Type 0) → Stays K
-    → (d : Discovery) (p : Parent) (result : List ℕ) (found : Option Run) (s : State)
-    → Holds K s → Holds K (tell d p result found s)
-kept-tell K stays d p result None s h = h
-kept-tell K stays d p result (Some r) s h =
-    kept-record_at_parent K stays d p result (is_recorded p.hash r.steps) s h
+  kept-offer_to_all : (fs : List FunctionEntry) (event : Event) (s : State) → Stands fs event.number s
+      → P s → P (offer_to_all fs event s)
+  kept-offer_to_all [] event s stands h = h
+  kept-offer_to_all (f ∷ fs) event s stands h = kept-offer_to_all fs event (offer f event s)
+      (kept-offer (Stands fs event.number) (keeps-stands fs event.number) f event s stands.0.0 stands.1
+      (stands.0.1, stands.1)) (kept-offer P keeps f event s stands.0.0 stands.1 h)
 
-kept-tell_parent : (K : ℕ → List Run → Type 0) → Stays K
-    → (d : Discovery) (p : Option Parent) (result : List ℕ) (s : State)
-    → Holds K s → Holds K (tell_parent d p result s)
-kept-tell_parent K stays d None result s h = h
-kept-tell_parent K stays d (Some p) result s h = kept-tell K stays d p result (live_run p.run s) s h
+  pub kept-follow : (d : Discovery) (event : Event) (s : State) → event.number ≤ s.events → P s
+      → P (follow d event s)
+  unfolding follow
+  kept-follow d event s given h = kept-offer_to_all s.functions event (wake_by d event s)
+      (kept-wake_by (Stands s.functions event.number) (keeps-stands s.functions event.number) d event s
+      (all-front s.functions s.retired, given)) (kept-wake_by P keeps d event s h)
 
-kept-raise : (K : ℕ → List Run → Type 0) → Stays K → (event : EventIn) (s : State)
-    → Holds K s → Holds K (raise event s)
-kept-raise K stays event s h =
-    kept-follow K stays at_the_end (event_with event s) (add_event (event_with event s) s) h
+  -- ## Ends
 
-kept-raise_failed : (K : ℕ → List Run → Type 0) → Stays K → (r : Run) (error : List ℕ) (s : State)
-    → Holds K s → Holds K (raise_failed r error s)
-kept-raise_failed K stays r error s h =
-    elim (is_of_failure (first_text r s))
-    as (λ b. Holds K (elim b as (λ _. State) [ true ↦ s | false ↦ raise (failed_event r error s) s ]))
-    [ true ↦ h | false ↦ kept-raise K stays (failed_event r error s) s h ]
+  kept-record_at_parent : (d : Discovery) (p : Parent) (result : List ℕ) (b : Bool) (s : State) → P s
+      → P (record_at_parent d p result b s)
+  kept-record_at_parent d p result true s h = h
+  kept-record_at_parent d p result false s h =
+      kept-discovered P keeps d (record_result p.run p.hash result (without_invocation_of p s))
+      (keeps.records p.run p.hash result (without_invocation_of p s)
+      (keeps.invocations_go (λ i. not (is_invocation_of p i)) s h))
 
-pub kept-complete_run : (K : ℕ → List Run → Type 0) → Stays K → (r : Run) (output : List ℕ) (s : State)
-    → Holds K s → Holds K (complete_run r output s)
-kept-complete_run K stays r output s h =
-    kept-tell_parent K stays at_the_end r.parent (data_result output) (end_run r Completed s)
-    (kept-end_run K stays r Completed s h)
+  kept-tell : (d : Discovery) (p : Parent) (result : List ℕ) (found : Option Run) (s : State) → P s
+      → P (tell d p result found s)
+  kept-tell d p result None s h = h
+  kept-tell d p result (Some r) s h = kept-record_at_parent d p result (is_recorded p.hash r.steps) s h
 
-pub kept-fail_run : (K : ℕ → List Run → Type 0) → Stays K → (r : Run) (error : List ℕ) (s : State)
-    → Holds K s → Holds K (fail_run r error s)
-unfolding fail_run
-kept-fail_run K stays r error s h =
-    kept-raise_failed K stays r error
-    (tell_parent at_the_end r.parent (error_result error) (end_run r Failed s))
-    (kept-tell_parent K stays at_the_end r.parent (error_result error) (end_run r Failed s)
-    (kept-end_run K stays r Failed s h))
+  kept-tell_parent : (d : Discovery) (p : Option Parent) (result : List ℕ) (s : State) → P s
+      → P (tell_parent d p result s)
+  kept-tell_parent d None result s h = h
+  kept-tell_parent d (Some p) result s h = kept-tell d p result (live_run p.run s) s h
 
-kept-cancel_run : (K : ℕ → List Run → Type 0) → Stays K → (d : Discovery) (r : Run) (s : State)
-    → Holds K s → Holds K (cancel_run d r s)
-kept-cancel_run K stays d r s h =
-    kept-tell_parent K stays d r.parent cancelled_result (end_run r Cancelled s)
-    (kept-end_run K stays r Cancelled s h)
+  kept-raise : (event : EventIn) (s : State) → P s → P (raise event s)
+  kept-raise event s h = kept-follow at_the_end (event_with event s) (add_event (event_with event s) s)
+      (omega arith) (keeps.accepts event None s tt h)
+
+  kept-raise_failed : (r : Run) (error : List ℕ) (s : State) → P s → P (raise_failed r error s)
+  kept-raise_failed r error s h =
+      elim (is_of_failure (first_text r s)) as (λ b. P (elim b as (λ _. State)
+      [ true ↦ s | false ↦ raise (failed_event r error s) s ]))
+      [ true ↦ h | false ↦ kept-raise (failed_event r error s) s h ]
+
+  pub kept-complete_run : (r : Run) (output : List ℕ) (s : State) → IsLive r s → P s
+      → P (complete_run r output s)
+  kept-complete_run r output s live h =
+      kept-tell_parent at_the_end r.parent (data_result output) (end_run r Completed s)
+      (keeps.ends r Completed s live h)
+
+  pub kept-fail_run : (r : Run) (error : List ℕ) (s : State) → IsLive r s → P s → P (fail_run r error s)
+  unfolding fail_run
+  kept-fail_run r error s live h =
+      kept-raise_failed r error (tell_parent at_the_end r.parent (error_result error) (end_run r Failed s))
+      (kept-tell_parent at_the_end r.parent (error_result error) (end_run r Failed s)
+      (keeps.ends r Failed s live h))
+
+  kept-cancel_run : (d : Discovery) (r : Run) (s : State) → IsLive r s → P s → P (cancel_run d r s)
+  kept-cancel_run d r s live h = kept-tell_parent d r.parent cancelled_result (end_run r Cancelled s)
+      (keeps.ends r Cancelled s live h)
+
+  pub kept-cancel_found : (run : ℕ) (found : Option Run) (s : State) → live_run run s ≡ found → P s
+      → P (cancel_found found s)
+  kept-cancel_found run None s e h = h
+  kept-cancel_found run (Some r) s e h = kept-cancel_run at_once r s (own-number run r s e) h
+
+  pub kept-cancel_all : (ns : List ℕ) (s : State) → P s → P (cancel_all ns s)
+  kept-cancel_all [] s h = h
+  kept-cancel_all (n ∷ ns) s h = kept-cancel_all ns (cancel_found (live_run n s) s)
+      (kept-cancel_found n (live_run n s) s refl h)
 
 -- ## Requests
 
-pub kept-cancel_found : (K : ℕ → List Run → Type 0) → Stays K → (found : Option Run) (s : State)
-    → Holds K s → Holds K (cancel_found found s)
-kept-cancel_found K stays None s h = h
-kept-cancel_found K stays (Some r) s h = kept-cancel_run K stays at_once r s h
+is-new : (id : Option (List ℕ)) (s : State)
+    → option_and_then (λ (name : List ℕ). find_seen name s.moment s.seen) id ≡ None
+    → IfSome id (λ name. find_seen name s.moment s.seen ≡ None)
+is-new None s e = tt
+is-new (Some name) s e = e
 
-kept-cancel_all : (K : ℕ → List Run → Type 0) → Stays K → (ns : List ℕ) (s : State)
-    → Holds K s → Holds K (cancel_all ns s)
-kept-cancel_all K stays [] s h = h
-kept-cancel_all K stays (n ∷ ns) s h = kept-cancel_all K stays ns (cancel_found (live_run n s) s)
-    (kept-cancel_found K stays (live_run n s) s h)
+module _ (P : State → Type 0) (keeps : Keeps P) where
+  pub kept-accept : (event : EventIn) (id : Option (List ℕ)) (s : State)
+      → IfSome id (λ name. find_seen name s.moment s.seen ≡ None) → P s → P (accept (event_with event s) id s)
+  kept-accept event id s new h =
+      let t : State = add_event (event_with event s) (remember id s) in
+      let met : List ℕ = cancelled (truth_in t) (event_with event s) t.rules in
+      kept-follow P keeps at_once (event_with event s) (cancel_by (event_with event s) t)
+      (kept-cancel_all (Stands [] (s.events + 1)) (keeps-stands [] (s.events + 1)) met t (tt, omega arith)).1
+      (kept-cancel_all P keeps met t (keeps.accepts event id s new h))
 
-kept-remember : (K : ℕ → List Run → Type 0) (id : Option (List ℕ)) (s : State)
-    → Holds K s → Holds K (remember id s)
-kept-remember K None s h = h
-kept-remember K (Some id) s h = h
+  kept-answer_event : (event : EventIn) (number : Option ℕ) (a : Answering) → repeats event a.state ≡ number
+      → P a.state → P (answer_event event number a).state
+  kept-answer_event event (Some number) a e h = h
+  kept-answer_event event None a e h = kept-accept event event.id a.state (is-new event.id a.state e) h
 
-kept-accept : (K : ℕ → List Run → Type 0) → Stays K → (event : Event) (id : Option (List ℕ)) (s : State)
-    → Holds K s → Holds K (accept event id s)
-kept-accept K stays event id s h =
-    let t : State = add_event event (remember id s) in
-    kept-follow K stays at_once event (cancel_by event t)
-    (kept-cancel_all K stays (cancelled (truth_in t) event t.rules) t (kept-remember K id s h))
-
-kept-answer_event : (K : ℕ → List Run → Type 0) → Stays K
-    → (event : EventIn) (number : Option ℕ) (a : Answering)
-    → Holds K a.state → Holds K (answer_event event number a).state
-kept-answer_event K stays event (Some number) a h = h
-kept-answer_event K stays event None a h = kept-accept K stays (event_with event a.state) event.id a.state h
-
-pub kept-on_events : (K : ℕ → List Run → Type 0) → Stays K → (events : List EventIn) (a : Answering)
-    → Holds K a.state → Holds K (on_events events a).state
-unfolding on_events
-kept-on_events K stays [] a h = h
-kept-on_events K stays (event ∷ events) a h = kept-on_events K stays events (on_event event a)
-    (kept-answer_event K stays event (repeats event a.state) a h)
+  pub kept-on_events : (events : List EventIn) (a : Answering) → P a.state → P (on_events events a).state
+  unfolding on_events
+  kept-on_events [] a h = h
+  kept-on_events (event ∷ events) a h = kept-on_events events (on_event event a)
+      (kept-answer_event event (repeats event a.state) a refl h)

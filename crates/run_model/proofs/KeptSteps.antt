@@ -1,151 +1,246 @@
--- What is due, the calls that are made, and each input keep what the three ways of change keep: so does a
--- step.
-use Rattle.std.proofs.Common.{ℕ, zero, suc, true, false, List, [], ◌∷◌, codes, length, Option, Some, None, refl}
+-- What is due, the calls that are made, and each input keep what each change keeps: so does a step.
+use Rattle.std.proofs.Common.{◌≡◌, ℕ, zero, suc, ◌≤◌, ◌==◌, Bool, true, false, not, cond, List, [], ◌∷◌, ◌++◌, map, codes, length, nat_le, Option, Some, None, IfSome, refl, subst, arith}
+use Rattle.std.specs.List.{AllByRecursion}
 use Rattle.kinds.specs.ErrorObject.{error_object}
 use Rattle.kinds.specs.Inputs.{reading}
 use Rattle.kinds.specs.RunSteps.{is_recorded}
 use Rattle.kinds.specs.Windows as windows
+use Rattle.kinds.specs.declared.function.App.{App}
 use Rattle.kinds.specs.declared.input.Input.{Input}
 use Rattle.kinds.specs.declared.input.Input.TheVariants.{Events, Register, Reply, CallFailed, Tick, Cancel, Reopened}
 use Rattle.kinds.specs.declared.store.Item.{Item}
+use Rattle.kinds.specs.declared.store.Rule.{Rule}
 use Rattle.kinds.specs.declared.window.Window.{Window}
 use Rattle.functions.specs.declared.entry.FunctionEntry.{FunctionEntry}
-use Rattle.run_model.specs.Advance.{Advanced, Timed, sleep_end, wait_end, invocation_end, window_end, rule_end, call_limit, advance, due_by, fire, fire_by, fired, make_found, most, timed_out, without_invocation, without_sleep, without_window}
+use Rattle.run_model.specs.Advance.{Advanced, Next, Timed, sleep_end, wait_end, invocation_end, window_end, rule_end, call_limit, advance, comes_before, due_by, due_of, earlier, fire, fire_by, fired, least, make_found, most, timed, timed_out, with_due, within, without_invocation, without_sleep, without_window}
 use Rattle.run_model.specs.Events.{end_wait}
-use Rattle.run_model.specs.Machine.{act, count_input, requeue_all, requeue_found, state_after, step}
+use Rattle.run_model.specs.Laws.{IsIn}
+use Rattle.run_model.specs.Machine.{act, count_input, reopen, requeue_all, requeue_found, step, with_functions}
 use Rattle.run_model.specs.Making.{queue}
 use Rattle.run_model.specs.Recording.{change_run, record_result}
 use Rattle.run_model.specs.Replies.{want}
-use Rattle.run_model.specs.Settle.{Settled, called, issue, issue_found, issue_of, item_at, next_issued, settle, settle_by}
-use Rattle.run_model.specs.State.{State, Run, Issue, function_at, live_run, moment_at, tidied}
-use Rattle.run_model.proofs.Kept.{Grows, Holds, Stays, follows-same, kept-discover, kept-make_run, kept-record_result}
+use Rattle.run_model.specs.Settle.{Settled, issue, issue_found, issue_of, item_at, next_issued, settle, settle_by}
+use Rattle.run_model.specs.State.{State, Run, Issue, Sleep, Invocation, at_moment, function_at, live_run, moment_at, tidied}
+use Rattle.run_model.proofs.Kept.{kept-discover, kept-make_run, own-number}
 use Rattle.run_model.proofs.KeptEvents.{kept-cancel_found, kept-end_wait, kept-on_events}
-use Rattle.run_model.proofs.KeptReplies.{grows-want, kept-fail_call, kept-on_call_failed, kept-on_reply}
+use Rattle.run_model.proofs.KeptReplies.{KeepsCalls, item_of, kept-fail_call, kept-on_call_failed, kept-on_reply}
+use Rattle.run_model.proofs.Members.{all-map, all-unit, each-in, in-found}
+use Rattle.run_model.proofs.SettlingLists.{all-append, same-some}
 
--- ## What is due
+-- ## The changes
 
-kept-make_found : (K : ℕ → List Run → Type 0) → Stays K
-    → (found : Option FunctionEntry) (w : Window) (s : State)
-    → Holds K s → Holds K (make_found found w s)
-kept-make_found K stays None w s h = h
-kept-make_found K stays (Some f) w s h = kept-make_run K stays f (windows.events_of w) None s h
+-- moments are at most a bound, and registrations are such as is asked
+pub record KeepsSteps (bound : ℕ) (A : App → Type 0) (P : List Item → State → Type 0) : Type 0 where
+  pub calls : KeepsCalls P
+  -- an input is counted, and time goes on
+  pub counts : (s : State) → P [] s → P [] (count_input s)
+  pub moves : (t : ℕ) (s : State) → t ≤ bound → P [] s → P [] (record s { moment = t })
+  pub arrives : (t : ℕ) (s : State) → t ≤ bound → P [] s → P [] (at_moment t s)
+  -- a call is made
+  pub issues : (number : ℕ) (i : Item) (s : State) → next_issued s ≡ Some number → item_at number s ≡ Some i
+      → P [] s → P [] (issue i s)
+  pub registers : (app : App) (s : State) → A app → P [] s → P [] (with_functions app s)
+  pub tidies : (s : State) → P [] s → P [] (tidied s)
 
-kept-fire : (K : ℕ → List Run → Type 0) → Stays K → (e : Timed) (s : State) → Holds K s → Holds K (fire e s)
-kept-fire K stays (sleep_end e) s h =
-    kept-discover K (record_result e.run e.hash (codes "null") (without_sleep e.number s))
-    (kept-record_result K stays e.run e.hash (codes "null") (without_sleep e.number s) h)
-kept-fire K stays (wait_end e) s h =
-    kept-discover K (end_wait (codes "{\"data\":null}") e s)
-    (kept-end_wait K stays (codes "{\"data\":null}") e s h)
-kept-fire K stays (invocation_end e) s h =
-    kept-discover K (record_result e.run e.hash timed_out (without_invocation e.number s))
-    (kept-record_result K stays e.run e.hash timed_out (without_invocation e.number s) h)
-kept-fire K stays (window_end w) s h =
-    kept-make_found K stays (function_at (windows.version_of w) s) w
-    (without_window (windows.number_of w) s) h
-kept-fire K stays (rule_end e) s h = h
-kept-fire K stays (call_limit i) s h = kept-fail_call K stays i (error_object (codes "call limit")) s h
+abbrev pub IsAsked : (App → Type 0) → Input → Type 0
+IsAsked A (Register at app) = A app
+IsAsked A _ = Unit {0}
 
-kept-fire_by : (K : ℕ → List Run → Type 0) → Stays K → (n t : ℕ) (a : Advanced)
-    → Holds K a.state → Holds K (fire_by n t a).state
-unfolding fire_by
-kept-fire_by K stays zero t a h = h
-kept-fire_by K stays (suc n) t a h =
-    elim (due_by t a.state) as (λ o. Holds K (elim o as (λ _. Advanced)
-    [ None ↦ a | Some next ↦ fire_by n t (fired next a) ]).state) [
-      | None ↦ h
-      | Some next ↦ kept-fire_by K stays n t (fired next a)
-          (kept-fire K stays next.entry (record a.state { moment = next.due }) h)
-    ]
+-- ## What is due is there
 
-kept-advance : (K : ℕ → List Run → Type 0) → Stays K → (t : ℕ) (s : State)
-    → Holds K s → Holds K (advance t s).state
-unfolding advance
-kept-advance K stays t s h = kept-fire_by K stays most t (record { state = s; hangs = [] }) h
+-- windows and open calls are
+abbrev IsThere : State → Timed → Type 0
+IsThere s (window_end w) = IsIn w s.windows
+IsThere s (call_limit i) = IsIn i s.issues
+IsThere s _ = Unit {0}
 
--- ## Calls
+all-there : (s : State) → AllByRecursion (IsThere s) (timed s)
+unfolding timed
+all-there s =
+    let There : Timed → Type 0 = IsThere s in
+    let a : List Timed = map sleep_end s.sleeps in
+    let b : List Timed = map wait_end s.waits in
+    let c : List Timed = map invocation_end s.invocations in
+    let d : List Timed = map window_end s.windows in
+    let e : List Timed = map rule_end s.rules in
+    all-append There (a ++ b ++ c ++ d ++ e) (map call_limit s.issues)
+    (all-append There (a ++ b ++ c ++ d) e
+    (all-append There (a ++ b ++ c) d
+    (all-append There (a ++ b) c
+    (all-append There a b (all-map There sleep_end s.sleeps (all-unit s.sleeps))
+    (all-map There wait_end s.waits (all-unit s.waits)))
+    (all-map There invocation_end s.invocations (all-unit s.invocations)))
+    (all-map There window_end s.windows (each-in s.windows)))
+    (all-map There rule_end s.rules (all-unit s.rules)))
+    (all-map There call_limit s.issues (each-in s.issues))
 
-grows-called : (i : Item) → Grows (called i)
-grows-called i r = (refl, follows-same r.steps.recorded)
+-- what holds of each holds of the least
+module _ (Q : Timed → Type 0) where
+  abbrev OfNext : Option Next → Type 0
+  OfNext found = IfSome found (λ next. Q next.entry)
 
-kept-issue : (K : ℕ → List Run → Type 0) → Stays K → (i : Item) (s : State) → Holds K s → Holds K (issue i s)
-kept-issue K stays i s h = stays.changes s.runs i.run (called i) s.live (grows-called i) h
+  of-earlier : (a : Next) (found : Option Next) → Q a.entry → OfNext found → OfNext (earlier a found)
+  of-earlier a None h k = h
+  of-earlier a (Some b) h k =
+      elim (comes_before b a) as (λ c. OfNext (cond c (Some b) (Some a))) [ true ↦ k | false ↦ h ]
 
-kept-issue_of : (K : ℕ → List Run → Type 0) → Stays K → (found : Option Run) (i : Item) (a : Settled)
-    → Holds K a.state → Holds K (issue_of found i a).state
-kept-issue_of K stays None i a h = kept-issue K stays i a.state h
-kept-issue_of K stays (Some r) i a h = kept-issue K stays i a.state h
+  of-with_due : (e : Timed) (due : Option ℕ) (found : Option Next) → Q e → OfNext found
+      → OfNext (with_due e due found)
+  of-with_due e None found h k = k
+  of-with_due e (Some due) found h k = of-earlier (record { due = due; entry = e }) found h k
 
-kept-issue_found : (K : ℕ → List Run → Type 0) → Stays K → (found : Option Item) (a : Settled)
-    → Holds K a.state → Holds K (issue_found found a).state
-kept-issue_found K stays None a h = h
-kept-issue_found K stays (Some i) a h = kept-issue_of K stays (live_run i.run a.state) i a h
+  of-least : (es : List Timed) → AllByRecursion Q es → OfNext (least es)
+  unfolding least
+  of-least [] h = tt
+  of-least (e ∷ es) h = of-with_due e (due_of e) (least es) h.0 (of-least es h.1)
 
-kept-settle_by : (K : ℕ → List Run → Type 0) → Stays K → (n : ℕ) (a : Settled)
-    → Holds K a.state → Holds K (settle_by n a).state
-unfolding settle_by
-kept-settle_by K stays zero a h = h
-kept-settle_by K stays (suc n) a h =
-    elim (next_issued a.state) as (λ o. Holds K (elim o as (λ _. Settled)
-    [ None ↦ a | Some number ↦ settle_by n (issue_found (item_at number a.state) a) ]).state) [
-      | None ↦ h
-      | Some number ↦ kept-settle_by K stays n (issue_found (item_at number a.state) a)
-          (kept-issue_found K stays (item_at number a.state) a h)
-    ]
+-- what is due by a moment is there, and due by it
+within-some : (Q : Timed → Type 0) (t : ℕ) (found : Option Next) (next : Next) → OfNext Q found
+    → within t found ≡ Some next → (next.due ≤ t) × Q next.entry
+within-some Q t None next h e = absurd (cc)
+within-some Q t (Some found) next h e =
+    (elim (nat_le found.due t) as (λ b. nat_le found.due t ≡ b → cond b (Some found) None ≡ Some next
+    → (next.due ≤ t) × Q next.entry) [
+      | true ↦ λ low k. subst (λ (n : Next). (n.due ≤ t) × Q n.entry) (same-some found next k)
+          (grind (arith, low), h)
+      | false ↦ λ low k. absurd (let no : None ≡ Some next = k in cc)
+    ]) refl e
 
--- ## Reopening
+is-due : (t : ℕ) (s : State) (next : Next) → due_by t s ≡ Some next → (next.due ≤ t) × IsThere s next.entry
+is-due t s next e =
+    within-some (IsThere s) t (least (timed s)) next (of-least (IsThere s) (timed s) (all-there s)) e
 
-kept-requeue_found : (K : ℕ → List Run → Type 0) → Stays K → (i : Item) (found : Option Run) (s : State)
-    → Holds K s → Holds K (requeue_found i found s)
-kept-requeue_found K stays i None s h = h
-kept-requeue_found K stays i (Some r) s h =
-    elim (is_recorded i.target r.steps) as (λ b. Holds K (elim b as (λ _. State)
-    [ true ↦ change_run r.number want s | false ↦ queue (record i { due = s.moment }) s ]))
-    [ true ↦ stays.changes s.runs r.number want s.live grows-want h | false ↦ h ]
+abbrev has_version : ℕ → FunctionEntry → Bool
+has_version version f = version == f.version
 
-kept-requeue_all : (K : ℕ → List Run → Type 0) → Stays K → (is : List Issue) (s : State)
-    → Holds K s → Holds K (requeue_all is s)
-kept-requeue_all K stays [] s h = h
-kept-requeue_all K stays (i ∷ is) s h =
-    kept-requeue_all K stays is (requeue_found i.item (live_run i.item.run s) s)
-    (kept-requeue_found K stays i.item (live_run i.item.run s) s h)
+module _ (bound : ℕ) (A : App → Type 0) (P : List Item → State → Type 0) (keeps : KeepsSteps bound A P) where
+  -- ## What is due
 
--- ## A step
+  kept-make_found : (found : Option FunctionEntry) (w : Window) (s : State)
+      → function_at (windows.version_of w) s ≡ found → IsIn w s.windows → P [] s
+      → P [] (make_found found w (without_window (windows.number_of w) s))
+  kept-make_found None w s e there h = (keeps.calls.runs []).windows_go (windows.number_of w) s h
+  kept-make_found (Some f) w s e there h =
+      kept-make_run (P []) (keeps.calls.runs []) f (windows.events_of w) None
+      (without_window (windows.number_of w) s)
+      ((keeps.calls.runs []).fires f w s
+      (in-found (has_version (windows.version_of w)) (s.functions ++ s.retired) f e) there h)
 
-kept-act : (K : ℕ → List Run → Type 0) → Stays K → (input : Input) (s : State)
-    → Holds K s → Holds K (act input s).state
-unfolding act
-kept-act K stays (Events at events) s h = kept-on_events K stays events (record { state = s; numbers = [] }) h
-kept-act K stays (Register at app) s h = h
-kept-act K stays (Reply at call reply) s h = kept-on_reply K stays call reply s h
-kept-act K stays (CallFailed at call) s h = kept-on_call_failed K stays call s h
-kept-act K stays (Tick at) s h = h
-kept-act K stays (Cancel at run) s h = kept-cancel_found K stays (live_run run s) s h
-kept-act K stays (Reopened at) s h =
-    kept-discover K (requeue_all s.issues (record s { issues = [] }))
-    (kept-requeue_all K stays s.issues (record s { issues = [] }) h)
+  kept-fire : (e : Timed) (s : State) → IsThere s e → P [] s → P [] (fire e s)
+  kept-fire (sleep_end e) s there h =
+      kept-discover (P []) (keeps.calls.runs [])
+      (record_result e.run e.hash (codes "null") (without_sleep e.number s))
+      ((keeps.calls.runs []).records e.run e.hash (codes "null") (without_sleep e.number s)
+      ((keeps.calls.runs []).sleeps_go (λ (other : Sleep). not (e.number == other.number)) s h))
+  kept-fire (wait_end e) s there h =
+      kept-discover (P []) (keeps.calls.runs []) (end_wait (codes "{\"data\":null}") e s)
+      (kept-end_wait (P []) (keeps.calls.runs []) (codes "{\"data\":null}") e s h)
+  kept-fire (invocation_end e) s there h =
+      kept-discover (P []) (keeps.calls.runs [])
+      (record_result e.run e.hash timed_out (without_invocation e.number s))
+      ((keeps.calls.runs []).records e.run e.hash timed_out (without_invocation e.number s)
+      ((keeps.calls.runs []).invocations_go (λ (other : Invocation). not (e.number == other.number)) s h))
+  kept-fire (window_end w) s there h =
+      kept-make_found (function_at (windows.version_of w) s) w s refl there h
+  kept-fire (rule_end e) s there h =
+      (keeps.calls.runs []).rules_go (λ (other : Rule). not (e.number == other.number)) s h
+  kept-fire (call_limit i) s there h =
+      kept-fail_call P keeps.calls i (error_object (codes "call limit")) s there h
 
-kept-tidied : (K : ℕ → List Run → Type 0) (s : State) → Holds K s → Holds K (tidied s)
-unfolding tidied
-kept-tidied K s h = h
+  kept-fire_by : (n t : ℕ) (a : Advanced) → t ≤ bound → P [] a.state → P [] (fire_by n t a).state
+  unfolding fire_by
+  kept-fire_by zero t a low h = h
+  kept-fire_by (suc n) t a low h =
+      (elim (due_by t a.state) as (λ o. due_by t a.state ≡ o → P [] (elim o as (λ _. Advanced)
+      [ None ↦ a | Some next ↦ fire_by n t (fired next a) ]).state) [
+        | None ↦ λ e. h
+        | Some next ↦ λ e.
+            let due : (next.due ≤ t) × IsThere a.state next.entry = is-due t a.state next e in
+            kept-fire_by n t (fired next a) low
+            (kept-fire next.entry (record a.state { moment = next.due }) due.1
+            (keeps.moves next.due a.state (omega (arith, low, due.0)) h))
+      ]) refl
 
--- what is issued after an input, and what then stays
-kept-settled : (K : ℕ → List Run → Type 0) → Stays K → (s : State)
-    → Holds K s → Holds K (tidied (settle (record { state = s; outs = [] })).state)
-kept-settled K stays s h =
-    let a : Settled = record { state = s; outs = [] } in
-    kept-tidied K (settle a).state (kept-settle_by K stays (length s.items) a h)
+  pub kept-advance : (t : ℕ) (s : State) → t ≤ bound → P [] s → P [] (advance t s).state
+  unfolding advance
+  kept-advance t s low h =
+      let a : Advanced = record { state = s; hangs = [] } in
+      keeps.arrives t (fire_by most t a).state low (kept-fire_by most t a low h)
 
-pub kept-step : (K : ℕ → List Run → Type 0) → Stays K → (s : State) (input : Input)
-    → Holds K s → Holds K (step s input).state
-unfolding step
-kept-step K stays s input h =
-    let a : Advanced = advance (moment_at (reading input) s) (count_input s) in
-    kept-settled K stays (act input a.state).state
-    (kept-act K stays input a.state (kept-advance K stays (moment_at (reading input) s) (count_input s) h))
+  -- ## Calls
 
-pub kept-state_after : (K : ℕ → List Run → Type 0) → Stays K → (inputs : List Input) (s : State)
-    → Holds K s → Holds K (state_after s inputs)
-kept-state_after K stays [] s h = h
-kept-state_after K stays (input ∷ inputs) s h =
-    kept-state_after K stays inputs (step s input).state (kept-step K stays s input h)
+  kept-issue_of : (number : ℕ) (run : Option Run) (i : Item) (a : Settled) → next_issued a.state ≡ Some number
+      → item_at number a.state ≡ Some i → P [] a.state → P [] (issue_of run i a).state
+  kept-issue_of number None i a e there h = keeps.issues number i a.state e there h
+  kept-issue_of number (Some r) i a e there h = keeps.issues number i a.state e there h
+
+  kept-issue_found : (number : ℕ) (found : Option Item) (a : Settled) → next_issued a.state ≡ Some number
+      → item_at number a.state ≡ found → P [] a.state → P [] (issue_found found a).state
+  kept-issue_found number None a e there h = h
+  kept-issue_found number (Some i) a e there h =
+      kept-issue_of number (live_run i.run a.state) i a e there h
+
+  pub kept-settle_by : (n : ℕ) (a : Settled) → P [] a.state → P [] (settle_by n a).state
+  unfolding settle_by
+  kept-settle_by zero a h = h
+  kept-settle_by (suc n) a h =
+      (elim (next_issued a.state) as (λ o. next_issued a.state ≡ o → P [] (elim o as (λ _. Settled)
+      [ None ↦ a | Some number ↦ settle_by n (issue_found (item_at number a.state) a) ]).state) [
+        | None ↦ λ e. h
+        | Some number ↦ λ e. kept-settle_by n (issue_found (item_at number a.state) a)
+            (kept-issue_found number (item_at number a.state) a e refl h)
+      ]) refl
+
+  -- ## Reopening
+
+  kept-requeue_found : (i : Item) (is : List Item) (found : Option Run) (s : State) → live_run i.run s ≡ found
+      → P (i ∷ is) s → P is (requeue_found i found s)
+  kept-requeue_found i is None s e h = keeps.calls.drops i is s h
+  kept-requeue_found i is (Some r) s e h =
+      (elim (is_recorded i.target r.steps) as (λ b. is_recorded i.target r.steps ≡ b
+      → P is (elim b as (λ _. State)
+      [ true ↦ change_run r.number want s | false ↦ queue (record i { due = s.moment }) s ])) [
+        | true ↦ λ done. (keeps.calls.runs is).wants r s (own-number i.run r s e)
+            (keeps.calls.drops i is s h)
+        | false ↦ λ new. keeps.calls.requeues i is r s e new h
+      ]) refl
+
+  kept-requeue_all : (is : List Issue) (s : State) → P (map item_of is) s → P [] (requeue_all is s)
+  kept-requeue_all [] s h = h
+  kept-requeue_all (i ∷ is) s h =
+      kept-requeue_all is (requeue_found i.item (live_run i.item.run s) s)
+      (kept-requeue_found i.item (map item_of is) (live_run i.item.run s) s refl h)
+
+  pub kept-reopen : (s : State) → P [] s → P [] (reopen s)
+  kept-reopen s h =
+      kept-discover (P []) (keeps.calls.runs []) (requeue_all s.issues (record s { issues = [] }))
+      (kept-requeue_all s.issues (record s { issues = [] }) (keeps.calls.reopens s h))
+
+  -- ## A step
+
+  pub kept-act : (input : Input) (s : State) → IsAsked A input → P [] s → P [] (act input s).state
+  unfolding act
+  kept-act (Events at events) s asked h =
+      kept-on_events (P []) (keeps.calls.runs []) events (record { state = s; numbers = [] }) h
+  kept-act (Register at app) s asked h = keeps.registers app s asked h
+  kept-act (Reply at call reply) s asked h = kept-on_reply P keeps.calls call reply s h
+  kept-act (CallFailed at call) s asked h = kept-on_call_failed P keeps.calls call s h
+  kept-act (Tick at) s asked h = h
+  kept-act (Cancel at run) s asked h =
+      kept-cancel_found (P []) (keeps.calls.runs []) run (live_run run s) s refl h
+  kept-act (Reopened at) s asked h = kept-reopen s h
+
+  -- what is issued after an input, and what then stays
+  pub kept-settled : (s : State) → P [] s → P [] (tidied (settle (record { state = s; outs = [] })).state)
+  kept-settled s h =
+      let a : Settled = record { state = s; outs = [] } in
+      keeps.tidies (settle a).state (kept-settle_by (length s.items) a h)
+
+  pub kept-step : (s : State) (input : Input) → moment_at (reading input) s ≤ bound → IsAsked A input → P [] s
+      → P [] (step s input).state
+  unfolding step
+  kept-step s input low asked h =
+      let a : Advanced = advance (moment_at (reading input) s) (count_input s) in
+      kept-settled (act input a.state).state
+      (kept-act input a.state asked
+      (kept-advance (moment_at (reading input) s) (count_input s) low (keeps.counts s h)))

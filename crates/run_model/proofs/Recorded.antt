@@ -11,8 +11,7 @@ use Rattle.run_model.specs.Laws.{AreCounted, Follows}
 use Rattle.run_model.specs.Machine.{fold, state_after, step}
 use Rattle.run_model.specs.Recording.{changed}
 use Rattle.run_model.specs.State.{State, Run, empty, live_run}
-use Rattle.run_model.proofs.Kept.{Grows, Stays, follows-same}
-use Rattle.run_model.proofs.KeptSteps.{kept-state_after, kept-step}
+use Rattle.run_model.proofs.KeptRuns.{Grows, Stays, follows-same, stays-after, stays-step}
 
 -- ## Numbers
 
@@ -172,10 +171,10 @@ recorded-here s counted number before here = (
 )
 
 pub counted-step : (s : State) (input : Input) → AreCounted s → AreCounted (step s input).state
-counted-step s input h = kept-step Counted stays-counted s input h
+counted-step s input h = stays-step Counted stays-counted s input h
 
 pub counted-fold : (limits : Limits) (inputs : List Input) → AreCounted (fold limits inputs)
-counted-fold limits inputs = kept-state_after Counted stays-counted inputs (empty limits) tt
+counted-fold limits inputs = stays-after Counted stays-counted inputs (empty limits) tt
 
 pub recorded-step : (s : State) (input : Input) → AreCounted s → (number : ℕ) (before after : Run)
     → live_run number s ≡ Some before → live_run number (step s input).state ≡ Some after
@@ -183,7 +182,7 @@ pub recorded-step : (s : State) (input : Input) → AreCounted s → (number : �
 recorded-step s input counted number before after here there =
     let first : List StepEntry = before.steps.recorded in
     subst (λ (o : Option Run). Begins first o) there
-    (kept-step (Recorded number first) (stays-recorded number first) s input
+    (stays-step (Recorded number first) (stays-recorded number first) s input
     (recorded-here s counted number before here)).1
 
 -- ## Over inputs
@@ -199,7 +198,7 @@ recorded-after : (s : State) (inputs : List Input) → AreCounted s → (number 
 recorded-after s inputs counted number before after here there =
     let first : List StepEntry = before.steps.recorded in
     subst (λ (o : Option Run). Begins first o) there
-    (kept-state_after (Recorded number first) (stays-recorded number first) inputs s
+    (stays-after (Recorded number first) (stays-recorded number first) inputs s
     (recorded-here s counted number before here)).1
 
 abbrev result : StepEntry → List ℕ

@@ -1,5 +1,5 @@
 -- What the laws of histories speak of.
-use Rattle.std.specs.Prelude.{◌≡◌, ◌≤◌, List, ◌++◌}
+use Rattle.std.specs.Prelude.{◌≡◌, ◌≤◌, ◌⊎◌, List, [], ◌∷◌, ◌++◌}
 use Rattle.std.specs.List.{AllByRecursion}
 use Rattle.kinds.specs.declared.store.StepEntry.{StepEntry}
 use Rattle.run_model.specs.State.{State, Run}
@@ -11,3 +11,8 @@ AreCounted s = AllByRecursion (λ (r : Run). r.number ≤ s.runs) s.live
 -- the steps before are there still, in front and as they were, and others may follow
 abbrev pub Follows : List StepEntry → List StepEntry → Type 0
 Follows before after = (more : List StepEntry) × (after ≡ before ++ more)
+
+-- an item is one of a list
+abbrev pub IsIn : {X : Type 0} → X → List X → Type 0
+IsIn x [] = ⊥
+IsIn x (y ∷ ys) = (y ≡ x) ⊎ IsIn x ys

@@ -3,6 +3,7 @@ pub mod Buckets
 pub mod Ends
 pub mod Events
 pub mod Expressions
+pub mod Fit
 pub mod Laws
 pub mod Machine
 pub mod Making
