@@ -165,3 +165,33 @@ module _ (P : State → Type 0) (keeps : Keeps P) where
   kept-make_run f events parent s h =
       kept-made (run_from f events parent s) (text_or_none (text_of (first_of events) s)) f.function.cancels
       (started f events parent s) (in-last (run_from f events parent s) s.live) refl h
+
+-- ## Two properties at once
+
+pub keeps-both : (P Q : State → Type 0) → Keeps P → Keeps Q → Keeps (λ s. P s × Q s)
+keeps-both P Q p q = record {
+  accepts = λ event id s new h. (p.accepts event id s new h.0, q.accepts event id s new h.1);
+  starts = λ f event parent s there given h.
+      (p.starts f event parent s there given h.0, q.starts f event parent s there given h.1);
+  fills = λ f r value event s may full h.
+      (p.fills f r value event s may full h.0, q.fills f r value event s may full h.1);
+  fires = λ f w s there stands h. (p.fires f w s there stands h.0, q.fires f w s there stands h.1);
+  joins = λ f r value event s may full h.
+      (p.joins f r value event s may full h.0, q.joins f r value event s may full h.1);
+  windows_go = λ number s h. (p.windows_go number s h.0, q.windows_go number s h.1);
+  rules = λ r event c s there e h. (p.rules r event c s there e h.0, q.rules r event c s there e h.1);
+  finds_out = λ r s there h. (p.finds_out r s there h.0, q.finds_out r s there h.1);
+  records = λ run name result s h. (p.records run name result s h.0, q.records run name result s h.1);
+  wants = λ r s live h. (p.wants r s live h.0, q.wants r s live h.1);
+  plans = λ r name s live new h. (p.plans r name s live new h.0, q.plans r name s live new h.1);
+  sleeps = λ r name t s live new h. (p.sleeps r name t s live new h.0, q.sleeps r name t s live new h.1);
+  waits = λ r name event t cond s live new h.
+      (p.waits r name event t cond s live new h.0, q.waits r name event t cond s live new h.1);
+  pends = λ r name s live new h. (p.pends r name s live new h.0, q.pends r name s live new h.1);
+  invokes = λ r name child t s h. (p.invokes r name child t s h.0, q.invokes r name child t s h.1);
+  ends = λ r status s live h. (p.ends r status s live h.0, q.ends r status s live h.1);
+  sleeps_go = λ test s h. (p.sleeps_go test s h.0, q.sleeps_go test s h.1);
+  waits_go = λ test s h. (p.waits_go test s h.0, q.waits_go test s h.1);
+  invocations_go = λ test s h. (p.invocations_go test s h.0, q.invocations_go test s h.1);
+  rules_go = λ test s h. (p.rules_go test s h.0, q.rules_go test s h.1);
+}

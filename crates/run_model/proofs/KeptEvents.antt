@@ -83,7 +83,7 @@ module _ (P : State → Type 0) (keeps : Keeps P) where
 -- ## Functions stay, and numbers of events
 
 -- the functions are there, and the event of a number
-abbrev Stands : List FunctionEntry → ℕ → State → Type 0
+abbrev pub Stands : List FunctionEntry → ℕ → State → Type 0
 Stands fs event s = AllByRecursion (λ f. IsFunction f s) fs × (event ≤ s.events)
 
 stands-accepted : (fs : List FunctionEntry) (number : ℕ) (event : EventIn) (id : Option (List ℕ)) (s : State)
@@ -118,7 +118,7 @@ keeps-stands fs number = record {
 module _ (P : State → Type 0) (keeps : Keeps P) where
   -- ## Offers
 
-  kept-offer_to_all : (fs : List FunctionEntry) (event : Event) (s : State) → Stands fs event.number s
+  pub kept-offer_to_all : (fs : List FunctionEntry) (event : Event) (s : State) → Stands fs event.number s
       → P s → P (offer_to_all fs event s)
   kept-offer_to_all [] event s stands h = h
   kept-offer_to_all (f ∷ fs) event s stands h = kept-offer_to_all fs event (offer f event s)
@@ -147,7 +147,7 @@ module _ (P : State → Type 0) (keeps : Keeps P) where
   kept-tell d p result None s h = h
   kept-tell d p result (Some r) s h = kept-record_at_parent d p result (is_recorded p.hash r.steps) s h
 
-  kept-tell_parent : (d : Discovery) (p : Option Parent) (result : List ℕ) (s : State) → P s
+  pub kept-tell_parent : (d : Discovery) (p : Option Parent) (result : List ℕ) (s : State) → P s
       → P (tell_parent d p result s)
   kept-tell_parent d None result s h = h
   kept-tell_parent d (Some p) result s h = kept-tell d p result (live_run p.run s) s h
@@ -175,7 +175,7 @@ module _ (P : State → Type 0) (keeps : Keeps P) where
       (kept-tell_parent at_the_end r.parent (error_result error) (end_run r Failed s)
       (keeps.ends r Failed s live h))
 
-  kept-cancel_run : (d : Discovery) (r : Run) (s : State) → IsLive r s → P s → P (cancel_run d r s)
+  pub kept-cancel_run : (d : Discovery) (r : Run) (s : State) → IsLive r s → P s → P (cancel_run d r s)
   kept-cancel_run d r s live h = kept-tell_parent d r.parent cancelled_result (end_run r Cancelled s)
       (keeps.ends r Cancelled s live h)
 

@@ -6,7 +6,6 @@ use Rattle.kinds.specs.RunSteps.{pend_step}
 use Rattle.kinds.specs.Windows as windows
 use Rattle.kinds.specs.declared.event.EventIn.{EventIn}
 use Rattle.kinds.specs.declared.input.Input.{Input}
-use Rattle.kinds.specs.declared.input.Input.TheVariants.{Events, Register, Reply, CallFailed, Tick, Cancel, Reopened}
 use Rattle.kinds.specs.declared.store.Item.{Item}
 use Rattle.kinds.specs.declared.store.Pending.{Pending}
 use Rattle.kinds.specs.declared.store.Pending.TheVariants as pending
@@ -22,7 +21,7 @@ use Rattle.run_model.specs.Settle.{called}
 use Rattle.run_model.specs.State.{State, Run, moment_at, tidied}
 use Rattle.run_model.proofs.Kept.{Keeps, run_from, window_after, with_offer}
 use Rattle.run_model.proofs.KeptReplies.{KeepsCalls}
-use Rattle.run_model.proofs.KeptSteps.{IsAsked, KeepsSteps, kept-step}
+use Rattle.run_model.proofs.KeptSteps.{KeepsSteps, kept-step}
 
 -- a run keeps its number, and what it recorded
 abbrev pub Grows : (Run → Run) → Type 0
@@ -120,34 +119,25 @@ module _ (K : ℕ → List Run → Type 0) (stays : Stays K) where
     requeues = λ i is r s live new h. h;
   }
 
-  keeps-steps : (bound : ℕ) → KeepsSteps bound (λ app. Unit {0}) (λ is s. Holds K s)
+  keeps-steps : (bound : ℕ) → KeepsSteps bound (λ input. Unit {0}) (λ is s. Holds K s)
   keeps-steps bound = record {
     calls = keeps-calls;
     counts = λ s h. h;
     moves = λ t s low h. h;
     arrives = λ t s low h. h;
     issues = λ number i s next there h. stays.changes s.runs i.run (called i) s.live (grows-called i) h;
-    registers = λ app s asked h. h;
+    registers = λ at app s asked h. h;
     tidies = λ s h. holds-tidied s h;
   }
 
 -- ## Steps
 
-asks-nothing : (input : Input) → IsAsked (λ app. Unit {0}) input
-asks-nothing (Events at events) = tt
-asks-nothing (Register at app) = tt
-asks-nothing (Reply at call reply) = tt
-asks-nothing (CallFailed at call) = tt
-asks-nothing (Tick at) = tt
-asks-nothing (Cancel at run) = tt
-asks-nothing (Reopened at) = tt
-
 module _ (K : ℕ → List Run → Type 0) (stays : Stays K) where
   pub stays-step : (s : State) (input : Input) → Holds K s → Holds K (step s input).state
   stays-step s input h =
       let bound : ℕ = moment_at (reading input) s in
-      kept-step bound (λ app. Unit {0}) (λ is s. Holds K s) (keeps-steps K stays bound) s input (omega arith)
-      (asks-nothing input) h
+      kept-step bound (λ input. Unit {0}) (λ is s. Holds K s) (keeps-steps K stays bound) s input (omega arith)
+      tt h
 
   pub stays-after : (inputs : List Input) (s : State) → Holds K s → Holds K (state_after s inputs)
   stays-after [] s h = h

@@ -29,8 +29,8 @@ use Rattle.run_model.proofs.SettlingLists.{all-append, same-some}
 
 -- ## The changes
 
--- moments are at most a bound, and registrations are such as is asked
-pub record KeepsSteps (bound : ℕ) (A : App → Type 0) (P : List Item → State → Type 0) : Type 0 where
+-- moments are at most a bound, and inputs are such as is asked
+pub record KeepsSteps (bound : ℕ) (A : Input → Type 0) (P : List Item → State → Type 0) : Type 0 where
   pub calls : KeepsCalls P
   -- an input is counted, and time goes on
   pub counts : (s : State) → P [] s → P [] (count_input s)
@@ -39,17 +39,13 @@ pub record KeepsSteps (bound : ℕ) (A : App → Type 0) (P : List Item → Stat
   -- a call is made
   pub issues : (number : ℕ) (i : Item) (s : State) → next_issued s ≡ Some number → item_at number s ≡ Some i
       → P [] s → P [] (issue i s)
-  pub registers : (app : App) (s : State) → A app → P [] s → P [] (with_functions app s)
+  pub registers : (at : ℕ) (app : App) (s : State) → A (Register at app) → P [] s → P [] (with_functions app s)
   pub tidies : (s : State) → P [] s → P [] (tidied s)
-
-abbrev pub IsAsked : (App → Type 0) → Input → Type 0
-IsAsked A (Register at app) = A app
-IsAsked A _ = Unit {0}
 
 -- ## What is due is there
 
 -- windows and open calls are
-abbrev IsThere : State → Timed → Type 0
+abbrev pub IsThere : State → Timed → Type 0
 IsThere s (window_end w) = IsIn w s.windows
 IsThere s (call_limit i) = IsIn i s.issues
 IsThere s _ = Unit {0}
@@ -113,7 +109,7 @@ is-due t s next e =
 abbrev has_version : ℕ → FunctionEntry → Bool
 has_version version f = version == f.version
 
-module _ (bound : ℕ) (A : App → Type 0) (P : List Item → State → Type 0) (keeps : KeepsSteps bound A P) where
+module _ (bound : ℕ) (A : Input → Type 0) (P : List Item → State → Type 0) (keeps : KeepsSteps bound A P) where
   -- ## What is due
 
   kept-make_found : (found : Option FunctionEntry) (w : Window) (s : State)
@@ -126,7 +122,7 @@ module _ (bound : ℕ) (A : App → Type 0) (P : List Item → State → Type 0)
       ((keeps.calls.runs []).fires f w s
       (in-found (has_version (windows.version_of w)) (s.functions ++ s.retired) f e) there h)
 
-  kept-fire : (e : Timed) (s : State) → IsThere s e → P [] s → P [] (fire e s)
+  pub kept-fire : (e : Timed) (s : State) → IsThere s e → P [] s → P [] (fire e s)
   kept-fire (sleep_end e) s there h =
       kept-discover (P []) (keeps.calls.runs [])
       (record_result e.run e.hash (codes "null") (without_sleep e.number s))
@@ -218,11 +214,11 @@ module _ (bound : ℕ) (A : App → Type 0) (P : List Item → State → Type 0)
 
   -- ## A step
 
-  pub kept-act : (input : Input) (s : State) → IsAsked A input → P [] s → P [] (act input s).state
+  pub kept-act : (input : Input) (s : State) → A input → P [] s → P [] (act input s).state
   unfolding act
   kept-act (Events at events) s asked h =
       kept-on_events (P []) (keeps.calls.runs []) events (record { state = s; numbers = [] }) h
-  kept-act (Register at app) s asked h = keeps.registers app s asked h
+  kept-act (Register at app) s asked h = keeps.registers at app s asked h
   kept-act (Reply at call reply) s asked h = kept-on_reply P keeps.calls call reply s h
   kept-act (CallFailed at call) s asked h = kept-on_call_failed P keeps.calls call s h
   kept-act (Tick at) s asked h = h
@@ -236,7 +232,7 @@ module _ (bound : ℕ) (A : App → Type 0) (P : List Item → State → Type 0)
       let a : Settled = record { state = s; outs = [] } in
       keeps.tidies (settle a).state (kept-settle_by (length s.items) a h)
 
-  pub kept-step : (s : State) (input : Input) → moment_at (reading input) s ≤ bound → IsAsked A input → P [] s
+  pub kept-step : (s : State) (input : Input) → moment_at (reading input) s ≤ bound → A input → P [] s
       → P [] (step s input).state
   unfolding step
   kept-step s input low asked h =

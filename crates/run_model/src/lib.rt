@@ -2,10 +2,12 @@
 //! and laws that hold of them. It has no code but laws: public functions with empty bodies.
 #![tactic(auto)]
 
+mod fit;
 mod laws;
 mod settling;
 mod waiting;
 
+pub use fit::{empty_is_fit, histories_are_fit, steps_stay_fit};
 pub use laws::{
     numbers_are_counted, numbers_stay_counted, recorded_only_grows, recorded_steps_stay,
 };
