@@ -133,6 +133,7 @@ fit-functions versions fs retired s rises fits room h =
       each = more-windows s.events s.entries s.versions s.events s.entries versions s.windows (omega arith)
           (omega arith) rises h.windows_fit.each;
       room = room;
+      apart = h.windows_fit.apart;
     })
 
 pub fit-seen : (seen : List SeenEntry) (s : State)
@@ -208,4 +209,5 @@ fit-entries s h =
       each = more-windows s.events s.entries s.versions s.events (s.entries + 1) s.versions s.windows
           (omega arith) (omega arith) (omega arith) h.windows_fit.each;
       room = h.windows_fit.room;
+      apart = h.windows_fit.apart;
     })

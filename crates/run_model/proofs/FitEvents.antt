@@ -98,6 +98,7 @@ fit-event event seen s low h =
       each = more-windows s.events s.entries s.versions next s.entries s.versions s.windows (omega arith)
           (omega arith) (omega arith) h.windows_fit.each;
       room = h.windows_fit.room;
+      apart = h.windows_fit.apart;
     })
 
 all-noted : (P : SeenEntry → Type 0) (entry : SeenEntry) (es : List SeenEntry) → P entry

@@ -290,5 +290,5 @@ fit-empty limits = record {
   calls_fit = record { queued = tt; open_calls = tt };
   times_fit = record { sleep_numbers = tt; invocation_numbers = tt };
   conditions_fit = record { each_wait = tt; each_rule = tt };
-  windows_fit = record { each = tt; room = λ f there. absurd there };
+  windows_fit = record { each = tt; room = λ f there. absurd there; apart = tt };
 }

@@ -1,5 +1,5 @@
 -- A fit state stays so where windows change, and where a run is made.
-use Rattle.std.proofs.Common.{◌≡◌, ℕ, ◌+◌, ◌≤◌, ◌==◌, Bool, true, false, not, ◌&&◌, ◌||◌, cond, List, [], ◌∷◌, ◌++◌, filter, length, Option, Some, None, IfSome, is_some, option_map, refl, sym, ◌∙◌, subst, nat_le, nat_lt, arith, eqb-true, bytes_eq}
+use Rattle.std.proofs.Common.{◌≡◌, ℕ, ◌+◌, ◌≤◌, ◌==◌, Bool, true, false, not, ◌&&◌, ◌||◌, cond, List, [], ◌∷◌, ◌++◌, filter, length, Option, Some, None, IfSome, is_some, option_map, refl, sym, ap₂, ◌∙◌, subst, nat_le, nat_lt, arith, eq-eqb, eqb-true, bytes_eq}
 use Rattle.std.specs.List.{AllByRecursion}
 use Rattle.std.specs.Ordering.{is_lt}
 use Rattle.kinds.specs.Cells.{IsStart}
@@ -13,13 +13,15 @@ use Rattle.kinds.specs.declared.window.Window.TheVariants as window
 use Rattle.kinds.specs.declared.window.WindowRule.{WindowRule}
 use Rattle.kinds.specs.declared.window.WindowRule.TheVariants as rule
 use Rattle.functions.specs.declared.entry.FunctionEntry.{FunctionEntry}
-use Rattle.lists.proofs.Elements.{all-filter, all-last}
+use Rattle.lists.proofs.Elements.{all-filter, all-last, all-weaker, filter-passes}
+use Rattle.lists.proofs.Texts.{bytes_flip}
 use Rattle.lists.specs.Entries.{key_of, pair_cmp}
 use Rattle.run_model.specs.Advance.{without_window}
 use Rattle.run_model.specs.Events.{window_of, window_rule_of}
 use Rattle.run_model.specs.Fit.{AreGiven, HasRoom, IsFit, IsFunctionFit, IsRunFit, IsThrottleInRange, IsWindowFit}
 use Rattle.run_model.specs.Laws.{IsIn}
 use Rattle.run_model.specs.Making.{first_of, text_or_none, throttle_cell}
+use Rattle.run_model.specs.Sound.{ArePairwise, is_same_window}
 use Rattle.run_model.specs.State.{State, Run, text_of}
 use Rattle.run_model.proofs.FitCounts.{fit-entries, fit-live, fit-runs, fit-windows}
 use Rattle.run_model.proofs.FitShifts.{shift-within}
@@ -54,12 +56,22 @@ fit-started f events parent s there given h =
 
 -- ## Windows that go
 
+pub pairs-filter : {X : Type 0} (R : X → X → Type 0) (test : X → Bool) (xs : List X) → ArePairwise R xs
+    → ArePairwise R (filter test xs)
+pairs-filter R test [] h = tt
+pairs-filter R test (x ∷ xs) h =
+    elim (test x) as (λ b. ArePairwise R (cond b (x ∷ filter test xs) (filter test xs))) [
+      | true ↦ (all-filter (R x) test xs h.0, pairs-filter R test xs h.1)
+      | false ↦ pairs-filter R test xs h.1
+    ]
+
 pub fit-windows_left : (test : Window → Bool) (s : State) → IsFit s
     → IsFit (record s { windows = filter test s.windows })
 fit-windows_left test s h = fit-windows (filter test s.windows) s
     (record {
       each = all-filter (IsWindowFit s.events s.entries s.versions) test s.windows h.windows_fit.each;
       room = λ f there. all-filter (HasRoom f) test s.windows (h.windows_fit.room f there);
+      apart = pairs-filter (λ w later. is_same_window w later ≡ false) test s.windows h.windows_fit.apart;
     }) h
 
 pub fit-fired : (f : FunctionEntry) (w : Window) (s : State) → IsFunction f s → IsIn w s.windows → IsFit s
@@ -175,6 +187,42 @@ all-inserted_in P w (v ∷ ws) own h =
     as (λ b. AllByRecursion P (cond b (w ∷ v ∷ ws) (v ∷ insert_window w ws)))
     [ true ↦ (own, h) | false ↦ (h.0, all-inserted_in P w ws own h.1) ]
 
+not-true : (b : Bool) → not b ≡ true → b ≡ false
+not-true true e = absurd (cc)
+not-true false e = refl
+
+eqb-flip : (a b : ℕ) → (a == b) ≡ (b == a)
+eqb-flip a b = by_tests (a == b) (b == a) refl refl
+  where
+    by_tests : (c d : Bool) → (a == b) ≡ c → (b == a) ≡ d → c ≡ d
+    by_tests true true e f = refl
+    by_tests true false e f = let no : (b == a) ≡ true = eq-eqb b a (sym (eqb-true a b e)) in absurd (cc)
+    by_tests false true e f = let no : (a == b) ≡ true = eq-eqb a b (sym (eqb-true b a f)) in absurd (cc)
+    by_tests false false e f = refl
+
+-- which of two windows comes first makes no difference
+same-flip : (v w : Window) → is_same_window w v ≡ false → is_same_window v w ≡ false
+same-flip v w h =
+    ap₂ (λ a b. a && b) (eqb-flip (windows.version_of v) (windows.version_of w))
+    (bytes_flip (windows.value_of v) (windows.value_of w)) ∙ h
+
+abbrev AreApart : List Window → Type 0
+AreApart ws = ArePairwise (λ w later. is_same_window w later ≡ false) ws
+
+apart-inserted : (w : Window) (ws : List Window) → AllByRecursion (λ v. is_same_window w v ≡ false) ws
+    → AreApart ws → AreApart (insert_window w ws)
+apart-inserted w [] h apart = (tt, tt)
+apart-inserted w (v ∷ ws) h apart =
+    elim (is_lt (pair_cmp (key_of windows.kind_of windows.number_of w)
+    (key_of windows.kind_of windows.number_of v)))
+    as (λ b. AreApart (cond b (w ∷ v ∷ ws) (v ∷ insert_window w ws))) [
+      | true ↦ (h, apart)
+      | false ↦ (
+        all-inserted_in (λ u. is_same_window v u ≡ false) w ws (same-flip v w h.0) apart.0,
+        apart-inserted w ws h.1 apart.1,
+      )
+    ]
+
 abbrev replaced : Window → State → List Window
 replaced w s = insert_window w (others (windows.version_of w) (windows.value_of w) s.windows)
 
@@ -193,6 +241,10 @@ fit-replaced f r w s there e own fits room h =
           (λ r. has_room r (Some w) ≡ true)) (h.functions_fit.one f g there stands (sym (same ∙ own)))
           (subst (λ (o : Option WindowRule). IfSome o (λ r. has_room r (Some w) ≡ true)) (sym e) room))
           (all-filter (HasRoom g) test s.windows (h.windows_fit.room g stands));
+      apart = apart-inserted w (filter test s.windows)
+          (all-weaker (λ v. test v ≡ true) (λ v. is_same_window w v ≡ false) (filter test s.windows)
+          (λ v k. not-true (is_same_window w v) k) (filter-passes test s.windows))
+          (pairs-filter (λ v later. is_same_window v later ≡ false) test s.windows h.windows_fit.apart);
     }) h
 
 -- the state with a window after an event, full or not, and one before it or not

@@ -1,6 +1,6 @@
 -- What holds in the midst of a step, and what keeps a state needs: numbers are at most their counts, buckets are
 -- those of their conditions, windows have room, and what is kept is in its range.
-use Rattle.std.specs.Prelude.{ℕ, unsigned_abs, ◌≡◌, ◌≤◌, ◌==◌, true, List, [], ◌++◌, find, Option, Some, None}
+use Rattle.std.specs.Prelude.{ℕ, unsigned_abs, ◌≡◌, ◌≤◌, ◌==◌, true, false, List, [], ◌++◌, find, Option, Some, None}
 use Rattle.std.specs.List.{AllByRecursion}
 use Rattle.std.specs.Option.{IfSome}
 use Rattle.kinds.specs.Cells.{IsStart, IsThrottle}
@@ -23,6 +23,7 @@ use Rattle.run_model.specs.Events.{window_rule_of}
 use Rattle.run_model.specs.Expressions.{most_shift}
 use Rattle.run_model.specs.Laws.{IsIn}
 use Rattle.run_model.specs.Making.{throttle_cell}
+use Rattle.run_model.specs.Sound.{ArePairwise, is_same_window}
 use Rattle.run_model.specs.State.{State, Run, Issue, EventText, Sleep, Waiting, Invocation}
 
 -- ## Functions
@@ -125,10 +126,12 @@ pub record IsWindowFit (events entries versions : ℕ) (w : Window) : Type 0 whe
   pub named : AreGiven events (windows.events_of w)
   pub dated : IsDated w
 
+-- no two windows are of one version and value
 pub record AreWindowsFit (events entries versions : ℕ) (fs : List FunctionEntry) (ws : List Window)
     : Type 0 where
   pub each : AllByRecursion (IsWindowFit events entries versions) ws
   pub room : (f : FunctionEntry) → IsIn f fs → AllByRecursion (HasRoom f) ws
+  pub apart : ArePairwise (λ w later. is_same_window w later ≡ false) ws
 
 -- ## A state
 

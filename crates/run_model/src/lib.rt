@@ -12,4 +12,7 @@ pub use laws::{
     numbers_are_counted, numbers_stay_counted, recorded_only_grows, recorded_steps_stay,
 };
 pub use settling::{calls_send_all_that_is_recorded, nothing_admissible_is_left};
-pub use waiting::only_time_passes_before_the_next_moment;
+pub use waiting::{
+    nothing_happens_before_the_next_moment, only_time_passes_before_the_next_moment,
+    steps_are_tidied,
+};

@@ -1,10 +1,13 @@
-// What a reading of the clock does before the next moment.
+// What a reading of the clock does before the next moment, and what is left at the end of a step.
+ghost use Rattle.kinds.specs.declared.input.Input.{Input};
 ghost use Rattle.kinds.specs.declared.input.Input.TheVariants.{Tick};
-ghost use Rattle.run_model.specs.Machine.{count_input, step};
+ghost use Rattle.kinds.specs.declared.limits.Limits.{Limits};
+ghost use Rattle.run_model.specs.Laws.{OnlyTimePasses};
+ghost use Rattle.run_model.specs.Machine.{count_input, fold, step};
 ghost use Rattle.run_model.specs.Next.{next_moment};
 ghost use Rattle.run_model.specs.Settle.{next_issued};
 ghost use Rattle.run_model.specs.State.{State, at_moment, moment_at, tidied};
-ghost use Rattle.std.specs.Prelude.{ℕ, [], ◌≡◌, ◌<◌, IfSome, None};
+ghost use Rattle.std.specs.Prelude.{ℕ, List, [], ◌≡◌, ◌<◌, IfSome, None};
 
 /// Nothing happens before the next moment, where no item may be issued and nothing is left that goes at the end of a
 /// step: a reading of the clock that comes earlier lets time go on, and nothing is said.
@@ -12,4 +15,15 @@ pub fn only_time_passes_before_the_next_moment()
     ensures { (s : State) (at : ℕ) → next_issued s ≡ None → tidied s ≡ s
         → IfSome (next_moment s) (λ n. moment_at at s < n)
         → step s (Tick at) ≡ record { state = at_moment (moment_at at s) (count_input s); outs = [] } }
+{}
+
+/// After each input nothing is left that goes at the end of a step.
+pub fn steps_are_tidied()
+    ensures { (s : State) (input : Input) → tidied (step s input).state ≡ (step s input).state }
+{}
+
+/// So in each state that is reached nothing happens before the next moment: an earlier reading of the clock lets
+/// time go on, and nothing is said.
+pub fn nothing_happens_before_the_next_moment()
+    ensures { (limits : Limits) (inputs : List Input) (at : ℕ) → OnlyTimePasses (fold limits inputs) at }
 {}
