@@ -19,7 +19,7 @@ use Rattle.functions.specs.declared.entry.FunctionEntry.{FunctionEntry}
 use Rattle.lists.proofs.Elements.{all-filter, all-last, all-weaker}
 use Rattle.run_model.specs.Buckets.{bucket_of}
 use Rattle.run_model.specs.Events.{add_event, event_with, takes_number, window_of}
-use Rattle.run_model.specs.Fit.{AreCallsFit, AreConditionsFit, IsBucketOf, IsCalledFit, IsFit, IsInRange, IsIssueFit, IsItemFit, IsRuleFit, IsRunFit, IsWaitFit}
+use Rattle.run_model.specs.Fit.{AreCallsFit, AreConditionsFit, IsBucketOf, IsCalledFit, IsFit, IsInRange, IsIssueFit, IsItemFit, IsRuleFit, IsRunFit, IsWaitFit, item_of}
 use Rattle.run_model.specs.Laws.{IsIn}
 use Rattle.run_model.specs.Machine.{step}
 use Rattle.run_model.specs.Replies.{again}
@@ -32,7 +32,7 @@ use Rattle.run_model.proofs.FitFunctions.{fit-registered}
 use Rattle.run_model.proofs.FitRuns.{fit-add_invocation, fit-add_rule, fit-add_sleep, fit-add_wait, fit-called, fit-end_run, fit-finds_out, fit-invocations, fit-pend, fit-plan_named, fit-queue, fit-record_result, fit-rules, fit-sleeps, fit-waits, fit-want}
 use Rattle.run_model.proofs.FitWindows.{fit-filled, fit-fired, fit-joined, fit-started, fit-windows_left}
 use Rattle.run_model.proofs.Kept.{Keeps, keeps-both, window_after, with_offer}
-use Rattle.run_model.proofs.KeptReplies.{KeepsCalls, item_of}
+use Rattle.run_model.proofs.KeptReplies.{KeepsCalls}
 use Rattle.run_model.proofs.KeptSteps.{KeepsSteps, kept-step}
 use Rattle.run_model.proofs.Members.{all-map, in-all, in-back, in-either, in-filter, in-found, in-front}
 

@@ -156,7 +156,7 @@ opened-room (rule.Batch b) version value event t number e = not-full b.size (len
 
 -- ## The window that is there before
 
-and-first : (a b : Bool) → (a && b) ≡ true → a ≡ true
+pub and-first : (a b : Bool) → (a && b) ≡ true → a ≡ true
 and-first true b h = refl
 and-first false b h = absurd (cc)
 
@@ -187,7 +187,7 @@ all-inserted_in P w (v ∷ ws) own h =
     as (λ b. AllByRecursion P (cond b (w ∷ v ∷ ws) (v ∷ insert_window w ws)))
     [ true ↦ (own, h) | false ↦ (h.0, all-inserted_in P w ws own h.1) ]
 
-not-true : (b : Bool) → not b ≡ true → b ≡ false
+pub not-true : (b : Bool) → not b ≡ true → b ≡ false
 not-true true e = absurd (cc)
 not-true false e = refl
 

@@ -18,6 +18,7 @@ use Rattle.functions.specs.declared.entry.FunctionEntry.{FunctionEntry}
 use Rattle.sdk_reply.specs.Outcome.{outcome_of}
 use Rattle.run_model.specs.Ends.{fail_run}
 use Rattle.run_model.specs.Events.{add_event, event_with}
+use Rattle.run_model.specs.Fit.{item_of}
 use Rattle.run_model.specs.Laws.{IsIn}
 use Rattle.run_model.specs.Making.{make_run, queue}
 use Rattle.run_model.specs.Recording.{change_run, data_result, error_result, record_result}
@@ -28,9 +29,6 @@ use Rattle.run_model.proofs.KeptEvents.{kept-complete_run, kept-fail_run}
 use Rattle.run_model.proofs.Members.{in-found, in-front}
 
 -- ## The changes
-
-abbrev pub item_of : Issue → Item
-item_of i = i.item
 
 -- the items of these calls are aside: they are in no queue, and their calls aren't open
 pub record KeepsCalls (P : List Item → State → Type 0) : Type 0 where

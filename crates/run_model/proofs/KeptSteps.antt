@@ -14,6 +14,7 @@ use Rattle.kinds.specs.declared.window.Window.{Window}
 use Rattle.functions.specs.declared.entry.FunctionEntry.{FunctionEntry}
 use Rattle.run_model.specs.Advance.{Advanced, Next, Timed, sleep_end, wait_end, invocation_end, window_end, rule_end, call_limit, advance, comes_before, due_by, due_of, earlier, fire, fire_by, fired, least, make_found, most, timed, timed_out, with_due, within, without_invocation, without_sleep, without_window}
 use Rattle.run_model.specs.Events.{end_wait}
+use Rattle.run_model.specs.Fit.{item_of}
 use Rattle.run_model.specs.Laws.{IsIn}
 use Rattle.run_model.specs.Machine.{act, count_input, reopen, requeue_all, requeue_found, step, with_functions}
 use Rattle.run_model.specs.Making.{queue}
@@ -23,7 +24,7 @@ use Rattle.run_model.specs.Settle.{Settled, issue, issue_found, issue_of, item_a
 use Rattle.run_model.specs.State.{State, Run, Issue, Sleep, Invocation, at_moment, function_at, live_run, moment_at, tidied}
 use Rattle.run_model.proofs.Kept.{kept-discover, kept-make_run, own-number}
 use Rattle.run_model.proofs.KeptEvents.{kept-cancel_found, kept-end_wait, kept-on_events}
-use Rattle.run_model.proofs.KeptReplies.{KeepsCalls, item_of, kept-fail_call, kept-on_call_failed, kept-on_reply}
+use Rattle.run_model.proofs.KeptReplies.{KeepsCalls, kept-fail_call, kept-on_call_failed, kept-on_reply}
 use Rattle.run_model.proofs.Members.{all-map, all-unit, each-in, in-found}
 use Rattle.run_model.proofs.SettlingLists.{all-append, same-some}
 

@@ -1,6 +1,7 @@
 -- What was tidied stays as it is: after a step nothing is left that goes at its end.
 use Rattle.std.proofs.Common.{◌≡◌, ℕ, zero, suc, ◌+◌, ◌-◌, ◌<◌, ◌≤◌, Bool, true, false, cond, List, [], ◌∷◌, ◌++◌, filter, take, drop, length, map, min, None, IfSome, refl, sym, ap, ap₂, ◌∙◌, arith, length-append, length-drop, length-take}
 use Rattle.std.specs.List.{AllByRecursion}
+use lib.Seq.{drop-append_seam, take-append_seam}
 use Rattle.kinds.specs.Inputs.{reading}
 use Rattle.kinds.specs.Queue.{least}
 use Rattle.kinds.specs.declared.input.Input.{Input}
@@ -29,19 +30,11 @@ filter-again : {X : Type 0} (p : X → Bool) (xs : List X) → filter p (filter 
 filter-again p xs = filter-all p (filter p xs) (filter-passes p xs)
 
 -- what is in front of so many is taken, and what is behind is left
-take-append : {X : Type 0} (xs ys : List X) → take (length xs) (xs ++ ys) ≡ xs
-take-append [] ys = refl
-take-append (x ∷ xs) ys = ap (λ zs. x ∷ zs) (take-append xs ys)
-
-drop-append : {X : Type 0} (xs ys : List X) → drop (length xs) (xs ++ ys) ≡ ys
-drop-append [] ys = refl
-drop-append (x ∷ xs) ys = drop-append xs ys
-
 take-front : {X : Type 0} (xs ys : List X) (n : ℕ) → n ≡ length xs → take n (xs ++ ys) ≡ xs
-take-front xs ys n e = rw e (take-append xs ys)
+take-front xs ys n e = rw e (take-append_seam xs ys)
 
 drop-front : {X : Type 0} (xs ys : List X) (n : ℕ) → n ≡ length xs → drop n (xs ++ ys) ≡ ys
-drop-front xs ys n e = rw e (drop-append xs ys)
+drop-front xs ys n e = rw e (drop-append_seam xs ys)
 
 length-filtered : {X : Type 0} (p : X → Bool) (xs : List X) → length (filter p xs) ≤ length xs
 length-filtered p [] = omega arith

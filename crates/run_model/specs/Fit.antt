@@ -1,10 +1,11 @@
 -- What holds in the midst of a step, and what keeps a state needs: numbers are at most their counts, buckets are
 -- those of their conditions, windows have room, and what is kept is in its range.
-use Rattle.std.specs.Prelude.{ℕ, unsigned_abs, ◌≡◌, ◌≤◌, ◌==◌, true, false, List, [], ◌++◌, find, Option, Some, None}
+use Rattle.std.specs.Prelude.{ℕ, unsigned_abs, ◌≡◌, ◌≢◌, ◌≤◌, ◌==◌, true, false, List, [], ◌++◌, map, find, Option, Some, None}
 use Rattle.std.specs.List.{AllByRecursion}
 use Rattle.std.specs.Option.{IfSome}
 use Rattle.kinds.specs.Cells.{IsStart, IsThrottle}
 use Rattle.kinds.specs.Moments.{last_moment}
+use Rattle.kinds.specs.Queue.{has_number}
 use Rattle.kinds.specs.Windows as windows
 use Rattle.kinds.specs.Windows.{IsDated, IsRule, has_room}
 use Rattle.kinds.specs.declared.function.App.{App}
@@ -145,6 +146,33 @@ pub record IsFit (s : State) : Type 0 where
   pub times_fit : AreTimesFit s.entries s.sleeps s.invocations
   pub conditions_fit : AreConditionsFit s.events s.entries s.texts s.waits s.rules
   pub windows_fit : AreWindowsFit s.events s.entries s.versions (s.functions ++ s.retired) s.windows
+
+-- ## Numbers of items
+
+-- the number was given, and no queued item has it
+pub record IsAsideOf (entries : ℕ) (items : List Item) (i : Item) : Type 0 where
+  pub given : i.number ≤ entries
+  pub unqueued : find (has_number i.number) items ≡ None
+
+abbrev pub IsAside : Item → State → Type 0
+IsAside i s = IsAsideOf s.entries s.items i
+
+abbrev pub AreDifferent : List Item → Type 0
+AreDifferent is = ArePairwise (λ i later. i.number ≢ later.number) is
+
+-- the numbers of the queued items and of these others were given, and no two items have one
+pub record StandApart (entries : ℕ) (items is : List Item) : Type 0 where
+  pub given : AllByRecursion (λ (i : Item). i.number ≤ entries) items
+  pub queued : AreDifferent items
+  pub aside : AllByRecursion (IsAsideOf entries items) is
+  pub called : AreDifferent is
+
+abbrev pub item_of : Issue → Item
+item_of i = i.item
+
+-- each queued item and each one of an open call has a number of its own
+abbrev pub HasOwnNumbers : State → Type 0
+HasOwnNumbers s = StandApart s.entries s.items (map item_of s.issues)
 
 -- ## Inputs
 

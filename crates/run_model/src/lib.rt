@@ -3,11 +3,16 @@
 #![tactic(auto)]
 
 mod fit;
+mod items;
 mod laws;
 mod settling;
 mod waiting;
 
 pub use fit::{empty_is_fit, histories_are_fit, steps_stay_fit};
+pub use items::{
+    ended_calls_leave_items_aside, items_have_own_numbers, items_keep_own_numbers,
+    operations_leave_items_aside,
+};
 pub use laws::{
     numbers_are_counted, numbers_stay_counted, recorded_only_grows, recorded_steps_stay,
 };
