@@ -18,7 +18,7 @@ use Rattle.run_model.proofs.SettlingLists.{find-filter}
 
 -- ## What is found in a list that changes
 
-find-last : {X : Type 0} (p : X → Bool) (xs : List X) (x : X) → (p x ≡ true → ⊥)
+pub find-last : {X : Type 0} (p : X → Bool) (xs : List X) (x : X) → (p x ≡ true → ⊥)
     → find p (xs ++ x ∷ []) ≡ find p xs
 find-last p [] x differs =
     (elim (p x) as (λ b. (b ≡ true → ⊥) → cond b (Some x) None ≡ None)

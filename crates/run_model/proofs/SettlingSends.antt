@@ -1,10 +1,8 @@
 -- A call sends what is recorded of its run, and the state at the end of the step has that still.
-use Rattle.std.proofs.Common.{◌≡◌, ℕ, zero, suc, ◌+◌, ◌==◌, true, false, cond, List, [], ◌∷◌, ◌++◌, map, length, Option, Some, None, IsSomeAnd, option_map, refl, sym, ap, subst, if◌then◌else◌, eqb-true}
+use Rattle.std.proofs.Common.{◌≡◌, ℕ, ◌+◌, ◌==◌, true, false, cond, List, length, Option, Some, None, IsSomeAnd, option_map, refl, sym, ap, subst, if◌then◌else◌, eqb-true}
 use Rattle.std.specs.List.{AllByRecursion, list_any}
-use Rattle.kinds.specs.Inputs.{reading}
 use Rattle.kinds.specs.Windows as windows
 use Rattle.kinds.specs.declared.input.Input.{Input}
-use Rattle.kinds.specs.declared.input.Input.TheVariants.{Events, Register, Reply, CallFailed, Tick, Cancel, Reopened}
 use Rattle.kinds.specs.declared.out.Out.{Out}
 use Rattle.kinds.specs.declared.out.Out.TheVariants as out
 use Rattle.kinds.specs.declared.store.Item.{Item}
@@ -12,13 +10,13 @@ use Rattle.functions.specs.declared.entry.FunctionEntry.{FunctionEntry}
 use Rattle.lists.proofs.Elements.{all-weaker}
 use Rattle.sdk_call.specs.Body.{call_body}
 use Rattle.step_ids.specs.Run.{run_text}
-use Rattle.run_model.specs.Advance.{Advanced, advance}
-use Rattle.run_model.specs.Machine.{Stepped, act, count_input, settled_after, step}
+use Rattle.run_model.specs.Machine.{step}
 use Rattle.run_model.specs.Making.{text_or_none}
-use Rattle.run_model.specs.Settle.{Settled, body_of, call_found, call_with, called, issue, issue_found, issue_of, item_at, next_issued, settle_by, texts_of}
+use Rattle.run_model.specs.Settle.{body_of, call_found, call_with, called, issue, texts_of}
 use Rattle.run_model.specs.Settled.{SendsRecorded, SendsRun}
-use Rattle.run_model.specs.State.{State, Run, EventText, function_at, is_in, is_named, is_used, live_run, moment_at, text_of, tidied, without_closed}
-use Rattle.run_model.proofs.SettlingLists.{all-append, all-in, find-filter, find-map, found-any, found-passes, map-same, or-left}
+use Rattle.run_model.specs.State.{State, Run, EventText, is_in, is_named, is_used, live_run, text_of, tidied, without_closed}
+use Rattle.run_model.proofs.SettlingOuts.{Says, said-step}
+use Rattle.run_model.proofs.SettlingLists.{all-in, find-filter, find-map, found-any, found-passes, map-same, or-left}
 
 -- ## A call is made: marks of its run change, and nothing that is sent
 
@@ -73,36 +71,6 @@ sends-new : (f : Option FunctionEntry) (i : Item) (r : Run) (s : State) → live
     → AllByRecursion (SendsRecorded (issue i s)) (call_found f r i (s.calls + 1) s)
 sends-new None i r s e = tt
 sends-new (Some f) i r s e = (sends-issue i s (call_with f.function r i (s.calls + 1) s) (sends-own i r s e), tt)
-
--- ## Settling
-
-abbrev AreSent : Settled → Type 0
-AreSent t = AllByRecursion (SendsRecorded t.state) t.outs
-
-sent-of : (run : Option Run) (i : Item) (t : Settled) → live_run i.run t.state ≡ run → AreSent t
-    → AreSent (issue_of run i t)
-sent-of None i t e h = all-weaker _ _ t.outs (sends-issue i t.state) h
-sent-of (Some r) i t e h =
-    all-append (SendsRecorded (issue i t.state)) t.outs
-    (call_found (function_at r.version t.state) r i (t.state.calls + 1) t.state)
-    (all-weaker _ _ t.outs (sends-issue i t.state) h)
-    (sends-new (function_at r.version t.state) i r t.state e)
-
-sent-found : (found : Option Item) (t : Settled) → AreSent t → AreSent (issue_found found t)
-sent-found None t h = h
-sent-found (Some i) t h = sent-of (live_run i.run t.state) i t refl h
-
-sent-on : (n : ℕ) (t : Settled) (next : Option ℕ) → AreSent t
-    → ((u : Settled) → AreSent u → AreSent (settle_by n u))
-    → AreSent (elim next as (λ _. Settled)
-    [ None ↦ t | Some number ↦ settle_by n (issue_found (item_at number t.state) t) ])
-sent-on n t None h more = h
-sent-on n t (Some number) h more = more (issue_found (item_at number t.state) t) (sent-found (item_at number t.state) t h)
-
-sent-by : (n : ℕ) (t : Settled) → AreSent t → AreSent (settle_by n t)
-unfolding settle_by
-sent-by zero t h = h
-sent-by (suc n) t h = sent-on n t (next_issued t.state) h (sent-by n)
 
 -- ## What stays at the end of the step: a run that has not ended names its events
 
@@ -161,37 +129,15 @@ sends-tidied s (out.Hang call) h = tt
 
 -- ## A step
 
--- connections that are hung are no calls, and neither is an answer
-hangs-send : (s : State) (calls : List ℕ) → AllByRecursion (SendsRecorded s) (map (λ call. out.Hang call) calls)
-hangs-send s [] = tt
-hangs-send s (call ∷ calls) = (tt, hangs-send s calls)
-
-answers-send : (t : State) (input : Input) (s : State) → AllByRecursion (SendsRecorded t) (act input s).outs
-unfolding act
-answers-send t (Events at events) s = (tt, tt)
-answers-send t (Register at app) s = (tt, tt)
-answers-send t (Reply at call reply) s = tt
-answers-send t (CallFailed at call) s = tt
-answers-send t (Tick at) s = tt
-answers-send t (Cancel at run) s = (tt, tt)
-answers-send t (Reopened at) s = tt
-
-sent-after : (calls : List ℕ) (input : Input) (s : State)
-    → AllByRecursion (SendsRecorded (settled_after (map (λ call. out.Hang call) calls) (act input s)).state)
-    (settled_after (map (λ call. out.Hang call) calls) (act input s)).outs
-sent-after calls input s =
-    let acted : Stepped = act input s in
-    let settled : Settled = settle_by (length acted.state.items) (record { state = acted.state; outs = [] }) in
-    let sent : AreSent settled =
-    sent-by (length acted.state.items) (record { state = acted.state; outs = [] }) tt in
-    let hangs : List Out = map (λ call. out.Hang call) calls in
-    let kept : State = tidied settled.state in
-    all-append (SendsRecorded kept) (hangs ++ acted.outs) settled.outs
-    (all-append (SendsRecorded kept) hangs acted.outs (hangs-send kept calls) (answers-send kept input s))
-    (all-weaker (SendsRecorded settled.state) (SendsRecorded kept) settled.outs (sends-tidied settled.state) sent)
+says-recorded : Says (λ s. Unit {0}) SendsRecorded
+says-recorded = record {
+  goes_on = λ number i s there good. tt;
+  calls = λ number i r f s there live good. sends-new f i r s live;
+  stays = sends-issue;
+  tidies = sends-tidied;
+  hangs = λ s call. tt;
+  answers = λ s status body. tt;
+}
 
 pub sent-step : (s : State) (input : Input) → AllByRecursion (SendsRecorded (step s input).state) (step s input).outs
-unfolding step
-sent-step s input =
-    let a : Advanced = advance (moment_at (reading input) s) (count_input s) in
-    sent-after a.hangs input a.state
+sent-step s input = said-step (λ s. Unit {0}) SendsRecorded says-recorded s input tt

@@ -1,21 +1,19 @@
 -- What was tidied stays as it is: after a step nothing is left that goes at its end.
-use Rattle.std.proofs.Common.{◌≡◌, ℕ, zero, suc, ◌+◌, ◌-◌, ◌<◌, ◌≤◌, Bool, true, false, cond, List, [], ◌∷◌, ◌++◌, filter, take, drop, length, map, min, None, IfSome, refl, sym, ap, ap₂, ◌∙◌, arith, length-append, length-drop, length-take}
+use Rattle.std.proofs.Common.{◌≡◌, ℕ, ◌+◌, ◌-◌, ◌≤◌, Bool, true, false, cond, List, [], ◌∷◌, ◌++◌, filter, take, drop, length, map, min, None, refl, ap, ap₂, ◌∙◌, arith, length-append, length-drop, length-take}
 use Rattle.std.specs.List.{AllByRecursion}
 use lib.Seq.{drop-append_seam, take-append_seam}
 use Rattle.kinds.specs.Inputs.{reading}
 use Rattle.kinds.specs.Queue.{least}
 use Rattle.kinds.specs.declared.input.Input.{Input}
 use Rattle.kinds.specs.declared.limits.Limits.{Limits}
-use Rattle.kinds.specs.declared.input.Input.TheVariants.{Tick}
 use Rattle.kinds.specs.declared.out.Out.{Out}
 use Rattle.kinds.specs.declared.out.Out.TheVariants.{Hang}
-use Rattle.functions.specs.declared.entry.FunctionEntry.{FunctionEntry}
 use Rattle.lists.proofs.Elements.{filter-passes}
 use Rattle.run_model.specs.Advance.{Advanced, advance}
 use Rattle.run_model.specs.Laws.{OnlyTimePasses}
 use Rattle.run_model.specs.Machine.{Stepped, act, count_input, fold, settled_after, state_after, step}
-use Rattle.run_model.specs.Settle.{Settled, next_issued, settle}
-use Rattle.run_model.specs.State.{State, Run, EndedRun, EventText, empty, has_open_call, is_named, is_version_named, last_or, moment_at, tidied, without_closed, without_unnamed}
+use Rattle.run_model.specs.Settle.{next_issued, settle}
+use Rattle.run_model.specs.State.{State, Run, EndedRun, empty, has_open_call, is_named, is_version_named, last_or, moment_at, tidied, without_closed, without_unnamed}
 use Rattle.run_model.proofs.SettlingRests.{rests-step}
 use Rattle.run_model.proofs.WaitingSteps.{waits-step}
 

@@ -2,12 +2,14 @@
 //! and laws that hold of them. It has no code but laws: public functions with empty bodies.
 #![tactic(auto)]
 
+mod calls;
 mod fit;
 mod items;
 mod laws;
 mod settling;
 mod waiting;
 
+pub use calls::{items_stay_new, limits_are_kept, recorded_steps_are_not_called};
 pub use fit::{empty_is_fit, histories_are_fit, steps_stay_fit};
 pub use items::{
     ended_calls_leave_items_aside, items_have_own_numbers, items_keep_own_numbers,
