@@ -105,7 +105,7 @@ fit-tidied s h = fit-unnamed (without_closed s) (fit-closed s h)
 
 -- ## Time, and calls
 
-fit-arrived : (t : ℕ) (s : State) → t ≤ last_moment → IsFit s → IsFit (at_moment t s)
+pub fit-arrived : (t : ℕ) (s : State) → t ≤ last_moment → IsFit s → IsFit (at_moment t s)
 fit-arrived t s low h =
     let a : State = record s { moment = t } in
     let b : State = record a { seen = remembered t s.seen } in

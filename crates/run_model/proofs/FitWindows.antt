@@ -84,10 +84,10 @@ fit-fired f w s there stands h =
 -- ## A window after an event
 
 -- the window that is there before, with what holds of it
-record IsBefore (events entries versions : ℕ) (f : FunctionEntry) (r : WindowRule) (w : Window) : Type 0 where
-  fits : IsWindowFit events entries versions w
-  own : f.version ≡ windows.version_of w
-  room : has_room r (Some w) ≡ true
+pub record IsBefore (events entries versions : ℕ) (f : FunctionEntry) (r : WindowRule) (w : Window) : Type 0 where
+  pub fits : IsWindowFit events entries versions w
+  pub own : f.version ≡ windows.version_of w
+  pub room : has_room r (Some w) ≡ true
 
 joined-given : (events : ℕ) (r : WindowRule) (event t : ℕ) (w : Window) → event ≤ events
     → AreGiven events (windows.events_of w) → AreGiven events (windows.events_of (joined r event t w))
@@ -160,7 +160,7 @@ pub and-first : (a b : Bool) → (a && b) ≡ true → a ≡ true
 and-first true b h = refl
 and-first false b h = absurd (cc)
 
-is-before : (f : FunctionEntry) (r : WindowRule) (value : List ℕ) (event : ℕ) (s : State)
+pub is-before : (f : FunctionEntry) (r : WindowRule) (value : List ℕ) (event : ℕ) (s : State)
     → MayJoin f r event s → IsFit s → (w : Window) → window_of f.version value s ≡ Some w
     → IsBefore s.events s.entries s.versions f r w
 is-before f r value event s may h w e =

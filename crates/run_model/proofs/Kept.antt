@@ -127,16 +127,16 @@ kept-choice P false s t h k = k
 
 -- ## Finding out what comes next
 
-abbrev AreThere : List Run → State → Type 0
+abbrev pub AreThere : List Run → State → Type 0
 AreThere rs s = AllByRecursion (λ r. IsIn r s.live) rs
 
 module _ (P : State → Type 0) (keeps : Keeps P) where
-  kept-discover_one : (r : Run) (s : State) → IsIn r s.live → P s → P (discover_one r s)
+  pub kept-discover_one : (r : Run) (s : State) → IsIn r s.live → P s → P (discover_one r s)
   kept-discover_one r s there h =
       kept-choice P (r.wanted && not (has_discovery s r.number)) (queue_new r step_target s) s
       (keeps.finds_out r s there h) h
 
-  kept-discover_all : (rs : List Run) (s : State) → AreThere rs s → P s → P (discover_all rs s)
+  pub kept-discover_all : (rs : List Run) (s : State) → AreThere rs s → P s → P (discover_all rs s)
   kept-discover_all [] s there h = h
   kept-discover_all (r ∷ rs) s there h = kept-discover_all rs (discover_one r s)
       (kept-choice (AreThere rs) (r.wanted && not (has_discovery s r.number)) (queue_new r step_target s) s
@@ -153,7 +153,7 @@ module _ (P : State → Type 0) (keeps : Keeps P) where
   -- ## Making a run
 
   -- its rules take numbers, and then its first item
-  kept-made : (r : Run) (event : List ℕ) (cs : List CancelEntry) (s : State) → IsIn r s.live
+  pub kept-made : (r : Run) (event : List ℕ) (cs : List CancelEntry) (s : State) → IsIn r s.live
       → event ≡ first_text r s → P s → P (queue_new r step_target (add_rules r (first_of r.events) event cs s))
   kept-made r event [] s there e h = keeps.finds_out r s there h
   kept-made r event (c ∷ cs) s there e h = kept-made r event cs (add_rule r (first_of r.events) event c s)

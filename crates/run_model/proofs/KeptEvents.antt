@@ -30,13 +30,13 @@ module _ (P : State → Type 0) (keeps : Keeps P) where
   kept-end_wait result w s h = keeps.records w.wait.run w.hash result (without_wait w.wait.number s)
       (keeps.waits_go (λ v. not (has_wait w.wait.number v)) s h)
 
-  kept-wake_found : (d : Discovery) (result : List ℕ) (found : Option Waiting) (s : State) → P s
+  pub kept-wake_found : (d : Discovery) (result : List ℕ) (found : Option Waiting) (s : State) → P s
       → P (wake_found d result found s)
   kept-wake_found d result None s h = h
   kept-wake_found d result (Some w) s h =
       kept-discovered P keeps d (end_wait result w s) (kept-end_wait result w s h)
 
-  kept-wake_all : (d : Discovery) (result : List ℕ) (ns : List ℕ) (s : State) → P s
+  pub kept-wake_all : (d : Discovery) (result : List ℕ) (ns : List ℕ) (s : State) → P s
       → P (wake_all d result ns s)
   kept-wake_all d result [] s h = h
   kept-wake_all d result (n ∷ ns) s h = kept-wake_all d result ns (wake d result n s)
@@ -48,7 +48,7 @@ module _ (P : State → Type 0) (keeps : Keeps P) where
 
   -- ## An offer
 
-  kept-in_window : (f : FunctionEntry) (r : WindowRule) (value : List ℕ) (event : ℕ) (s : State)
+  pub kept-in_window : (f : FunctionEntry) (r : WindowRule) (value : List ℕ) (event : ℕ) (s : State)
       → MayJoin f r event s → P s
       → P (in_window f r (window_of f.version value s) (window_after f r value event s) s)
   kept-in_window f r value event s may h =
@@ -63,7 +63,7 @@ module _ (P : State → Type 0) (keeps : Keeps P) where
         | false ↦ λ e. keeps.joins f r value event s may e h
       ]) refl
 
-  kept-offer_to : (f : FunctionEntry) (r : Option WindowRule) (event : Event) (s : State) → IsFunction f s
+  pub kept-offer_to : (f : FunctionEntry) (r : Option WindowRule) (event : Event) (s : State) → IsFunction f s
       → window_rule_of f.function ≡ r → event.number ≤ s.events → P s → P (offer_to f r event s)
   kept-offer_to f None event s there e given h = kept-make_run P keeps f (event.number ∷ []) None s
       (keeps.starts f event.number None s there given h)
@@ -71,7 +71,7 @@ module _ (P : State → Type 0) (keeps : Keeps P) where
       kept-in_window f r (key_value (key_of r) event.text) event.number s
       (record { there = there; rule = e; given = given }) h
 
-  kept-offer : (f : FunctionEntry) (event : Event) (s : State) → IsFunction f s → event.number ≤ s.events
+  pub kept-offer : (f : FunctionEntry) (event : Event) (s : State) → IsFunction f s → event.number ≤ s.events
       → P s → P (offer f event s)
   kept-offer f event s there given h =
       elim (is_triggered event f) as (λ b. P (elim b as (λ _. State)
@@ -134,7 +134,7 @@ module _ (P : State → Type 0) (keeps : Keeps P) where
 
   -- ## Ends
 
-  kept-record_at_parent : (d : Discovery) (p : Parent) (result : List ℕ) (b : Bool) (s : State) → P s
+  pub kept-record_at_parent : (d : Discovery) (p : Parent) (result : List ℕ) (b : Bool) (s : State) → P s
       → P (record_at_parent d p result b s)
   kept-record_at_parent d p result true s h = h
   kept-record_at_parent d p result false s h =
@@ -142,7 +142,7 @@ module _ (P : State → Type 0) (keeps : Keeps P) where
       (keeps.records p.run p.hash result (without_invocation_of p s)
       (keeps.invocations_go (λ i. not (is_invocation_of p i)) s h))
 
-  kept-tell : (d : Discovery) (p : Parent) (result : List ℕ) (found : Option Run) (s : State) → P s
+  pub kept-tell : (d : Discovery) (p : Parent) (result : List ℕ) (found : Option Run) (s : State) → P s
       → P (tell d p result found s)
   kept-tell d p result None s h = h
   kept-tell d p result (Some r) s h = kept-record_at_parent d p result (is_recorded p.hash r.steps) s h
@@ -152,11 +152,11 @@ module _ (P : State → Type 0) (keeps : Keeps P) where
   kept-tell_parent d None result s h = h
   kept-tell_parent d (Some p) result s h = kept-tell d p result (live_run p.run s) s h
 
-  kept-raise : (event : EventIn) (s : State) → P s → P (raise event s)
+  pub kept-raise : (event : EventIn) (s : State) → P s → P (raise event s)
   kept-raise event s h = kept-follow at_the_end (event_with event s) (add_event (event_with event s) s)
       (omega arith) (keeps.accepts event None s tt h)
 
-  kept-raise_failed : (r : Run) (error : List ℕ) (s : State) → P s → P (raise_failed r error s)
+  pub kept-raise_failed : (r : Run) (error : List ℕ) (s : State) → P s → P (raise_failed r error s)
   kept-raise_failed r error s h =
       elim (is_of_failure (first_text r s)) as (λ b. P (elim b as (λ _. State)
       [ true ↦ s | false ↦ raise (failed_event r error s) s ]))
@@ -207,7 +207,7 @@ module _ (P : State → Type 0) (keeps : Keeps P) where
       (kept-cancel_all (Stands [] (s.events + 1)) (keeps-stands [] (s.events + 1)) met t (tt, omega arith)).1
       (kept-cancel_all P keeps met t (keeps.accepts event id s new h))
 
-  kept-answer_event : (event : EventIn) (number : Option ℕ) (a : Answering) → repeats event a.state ≡ number
+  pub kept-answer_event : (event : EventIn) (number : Option ℕ) (a : Answering) → repeats event a.state ≡ number
       → P a.state → P (answer_event event number a).state
   kept-answer_event event (Some number) a e h = h
   kept-answer_event event None a e h = kept-accept event event.id a.state (is-new event.id a.state e) h

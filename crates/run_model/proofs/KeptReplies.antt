@@ -54,25 +54,25 @@ is_current id f = bytes_eq id f.function.id
 -- ## Operations
 
 module _ (P : State → Type 0) (keeps : Keeps P) where
-  kept-noted : (n : Noting) (r : Run) (effect : State → State) (t : Taking) → IsLive r t.state
+  pub kept-noted : (n : Noting) (r : Run) (effect : State → State) (t : Taking) → IsLive r t.state
       → (Adds n → P (effect t.state)) → P t.state → P (noted n r effect t).state
   kept-noted (adds steps) r effect t live effects h = effects tt
   kept-noted known r effect t live effects h = h
   kept-noted full r effect t live effects h =
       kept-fail_run P keeps r (error_object (codes "too many steps")) t.state live h
 
-  kept-keep : (r : Run) (name result : List ℕ) (t : Taking) → IsLive r t.state → P t.state
+  pub kept-keep : (r : Run) (name result : List ℕ) (t : Taking) → IsLive r t.state → P t.state
       → P (keep r name result t).state
   kept-keep r name result t live h =
       kept-noted (keep_step name result r.steps) r (record_result r.number name result) t live
       (λ new. keeps.records r.number name result t.state h) h
 
-  kept-on_error : (b : Bool) (r : Run) (name error : List ℕ) (t : Taking) → IsLive r t.state → P t.state
+  pub kept-on_error : (b : Bool) (r : Run) (name error : List ℕ) (t : Taking) → IsLive r t.state → P t.state
       → P (on_error b r name error t).state
   kept-on_error true r name error t live h = kept-keep r name (error_result error) t live h
   kept-on_error false r name error t live h = h
 
-  kept-invoke_found : (found : Option FunctionEntry) (id : List ℕ) (r : Run) (name : List ℕ)
+  pub kept-invoke_found : (found : Option FunctionEntry) (id : List ℕ) (r : Run) (name : List ℕ)
       (payload : Option (List ℕ)) (t : Option Time) (s : State) → current id s ≡ found → IsLive r s
       → Adds (note_pending name pending.Invocation r.steps) → P s → P (invoke_found found r name payload t s)
   kept-invoke_found None id r name payload t s e live new h =
@@ -89,7 +89,7 @@ module _ (P : State → Type 0) (keeps : Keeps P) where
       (keeps.starts f event.number (Some (record { run = r.number; hash = name })) there
       (in-front f s.functions s.retired (in-found (is_current id) s.functions f e)) (omega arith) given))
 
-  kept-take_named : (i : Item) (no_retry : Bool) (r : Run) (o : Op) (t : Taking) → IsLive r t.state
+  pub kept-take_named : (i : Item) (no_retry : Bool) (r : Run) (o : Op) (t : Taking) → IsLive r t.state
       → P t.state → P (take_named i no_retry r o t).state
   kept-take_named i no_retry r (op.StepRun name value) t live h =
       kept-keep r name (data_result value) t live h
@@ -108,13 +108,13 @@ module _ (P : State → Type 0) (keeps : Keeps P) where
       kept-noted (note_pending name pending.Invocation r.steps) r (invoke r name id payload due) t live
       (λ new. kept-invoke_found (current id t.state) id r name payload due t.state refl live new h) h
 
-  kept-take_found : (i : Item) (no_retry : Bool) (o : Op) (found : Option Run) (t : Taking)
+  pub kept-take_found : (i : Item) (no_retry : Bool) (o : Op) (found : Option Run) (t : Taking)
       → live_run i.run t.state ≡ found → P t.state → P (take_found i no_retry o found t).state
   kept-take_found i no_retry o None t e h = h
   kept-take_found i no_retry o (Some r) t e h =
       kept-take_named i no_retry r o t (own-number i.run r t.state e) h
 
-  kept-take_operation : (i : Item) (no_retry : Bool) (o : Op) (t : Taking) → P t.state
+  pub kept-take_operation : (i : Item) (no_retry : Bool) (o : Op) (t : Taking) → P t.state
       → P (take_operation i no_retry o t).state
   kept-take_operation i no_retry o t h =
       elim t.stopped as (λ b. P (elim b as (λ _. Taking)
@@ -132,7 +132,7 @@ module _ (P : State → Type 0) (keeps : Keeps P) where
 module _ (P : List Item → State → Type 0) (keeps : KeepsCalls P) where
   -- ## A call that fails
 
-  kept-retry_run : (r : Run) (i : Item) (a : After) (error : List ℕ) (s : State) → live_run i.run s ≡ Some r
+  pub kept-retry_run : (r : Run) (i : Item) (a : After) (error : List ℕ) (s : State) → live_run i.run s ≡ Some r
       → P (i ∷ []) s → P [] (retry_run r i a error s)
   kept-retry_run r i a error s e h =
       (elim (is_recorded i.target r.steps) as (λ b. is_recorded i.target r.steps ≡ b
@@ -150,17 +150,17 @@ module _ (P : List Item → State → Type 0) (keeps : KeepsCalls P) where
             ]
       ]) refl
 
-  kept-retry_found : (found : Option Run) (i : Item) (a : After) (error : List ℕ) (s : State)
+  pub kept-retry_found : (found : Option Run) (i : Item) (a : After) (error : List ℕ) (s : State)
       → live_run i.run s ≡ found → P (i ∷ []) s → P [] (retry_found found i a error s)
   kept-retry_found None i a error s e h = keeps.drops i [] s h
   kept-retry_found (Some r) i a error s e h = kept-retry_run r i a error s e h
 
-  kept-retry : (i : Item) (a : After) (error : List ℕ) (s : State) → P (i ∷ []) s → P [] (retry i a error s)
+  pub kept-retry : (i : Item) (a : After) (error : List ℕ) (s : State) → P (i ∷ []) s → P [] (retry i a error s)
   kept-retry i a error s h = kept-retry_found (live_run i.run s) i a error s refl h
 
   -- ## After the operations
 
-  kept-after_found : (found : Option Run) (i : Item) (a : After) (s : State) → live_run i.run s ≡ found
+  pub kept-after_found : (found : Option Run) (i : Item) (a : After) (s : State) → live_run i.run s ≡ found
       → P (i ∷ []) s → P [] (after_found found i a s)
   kept-after_found None i a s e h = keeps.drops i [] s h
   kept-after_found (Some r) i a s e h =
@@ -168,7 +168,7 @@ module _ (P : List Item → State → Type 0) (keeps : KeepsCalls P) where
       [ true ↦ retry_run r i a moved_nothing s | false ↦ s ]))
       [ true ↦ kept-retry_run r i a moved_nothing s e h | false ↦ keeps.drops i [] s h ]
 
-  kept-finished : (i : Item) (a : After) (t : Taking) → P (i ∷ []) t.state → P [] (finished i a t)
+  pub kept-finished : (i : Item) (a : After) (t : Taking) → P (i ∷ []) t.state → P [] (finished i a t)
   kept-finished i a t h =
       elim t.again as (λ b. P [] (elim b as (λ _. State) [
         | true ↦ retry i a [] t.state
@@ -180,7 +180,7 @@ module _ (P : List Item → State → Type 0) (keeps : KeepsCalls P) where
 
   -- ## Outcomes
 
-  kept-take_ops : (r : Run) (i : Item) (ops : List Op) (no_retry : Bool) (a : After) (s : State)
+  pub kept-take_ops : (r : Run) (i : Item) (ops : List Op) (no_retry : Bool) (a : After) (s : State)
       → live_run i.run s ≡ Some r → P (i ∷ []) s → P [] (take_ops r i ops no_retry a s)
   kept-take_ops r i ops no_retry a s e h =
       elim (lacks_target i ops) as (λ b. P [] (elim b as (λ _. State) [
@@ -192,7 +192,7 @@ module _ (P : List Item → State → Type 0) (keeps : KeepsCalls P) where
             (kept-take_operations (P (i ∷ [])) (keeps.runs (i ∷ [])) i no_retry ops (begun s) h)
       ]
 
-  kept-take_outcome : (r : Run) (i : Item) (o : Outcome) (s : State) → live_run i.run s ≡ Some r
+  pub kept-take_outcome : (r : Run) (i : Item) (o : Outcome) (s : State) → live_run i.run s ≡ Some r
       → P (i ∷ []) s → P [] (take_outcome r i o s)
   kept-take_outcome r i (outcome.Ended output) s e h =
       kept-complete_run (P []) (keeps.runs []) r output s (own-number i.run r s e) (keeps.drops i [] s h)
@@ -203,7 +203,7 @@ module _ (P : List Item → State → Type 0) (keeps : KeepsCalls P) where
   kept-take_outcome r i (outcome.Unreadable at) s e h =
       kept-retry_run r i after.None (error_object (codes "unreadable reply")) s e h
 
-  kept-reply_found : (found : Option Run) (i : Item) (reply : ReplyIn) (s : State)
+  pub kept-reply_found : (found : Option Run) (i : Item) (reply : ReplyIn) (s : State)
       → live_run i.run s ≡ found → P (i ∷ []) s → P [] (reply_found found i reply s)
   kept-reply_found None i reply s e h = keeps.drops i [] s h
   kept-reply_found (Some r) i reply s e h =
@@ -212,7 +212,7 @@ module _ (P : List Item → State → Type 0) (keeps : KeepsCalls P) where
 
   -- ## Replies and failures of calls
 
-  kept-take_reply : (call : ℕ) (found : Option Issue) (reply : ReplyIn) (s : State)
+  pub kept-take_reply : (call : ℕ) (found : Option Issue) (reply : ReplyIn) (s : State)
       → open_issue call s ≡ found → P [] s → P [] (take_reply found reply s)
   kept-take_reply call None reply s e h = h
   kept-take_reply call (Some i) reply s e h =
@@ -229,7 +229,7 @@ module _ (P : List Item → State → Type 0) (keeps : KeepsCalls P) where
       kept-discover (P []) (keeps.runs []) (retry i.item after.None error (close i.call s))
       (kept-retry i.item after.None error (close i.call s) (keeps.closes i s there h))
 
-  kept-fail_found : (call : ℕ) (found : Option Issue) (error : List ℕ) (s : State)
+  pub kept-fail_found : (call : ℕ) (found : Option Issue) (error : List ℕ) (s : State)
       → open_issue call s ≡ found → P [] s → P [] (fail_found found error s)
   kept-fail_found call None error s e h = h
   kept-fail_found call (Some i) error s e h =

@@ -103,7 +103,7 @@ within-some Q t (Some found) next h e =
       | false ↦ λ low k. absurd (let no : None ≡ Some next = k in cc)
     ]) refl e
 
-is-due : (t : ℕ) (s : State) (next : Next) → due_by t s ≡ Some next → (next.due ≤ t) × IsThere s next.entry
+pub is-due : (t : ℕ) (s : State) (next : Next) → due_by t s ≡ Some next → (next.due ≤ t) × IsThere s next.entry
 is-due t s next e =
     within-some (IsThere s) t (least (timed s)) next (of-least (IsThere s) (timed s) (all-there s)) e
 
@@ -113,7 +113,7 @@ has_version version f = version == f.version
 module _ (bound : ℕ) (A : Input → Type 0) (P : List Item → State → Type 0) (keeps : KeepsSteps bound A P) where
   -- ## What is due
 
-  kept-make_found : (found : Option FunctionEntry) (w : Window) (s : State)
+  pub kept-make_found : (found : Option FunctionEntry) (w : Window) (s : State)
       → function_at (windows.version_of w) s ≡ found → IsIn w s.windows → P [] s
       → P [] (make_found found w (without_window (windows.number_of w) s))
   kept-make_found None w s e there h = (keeps.calls.runs []).windows_go (windows.number_of w) s h
@@ -144,7 +144,7 @@ module _ (bound : ℕ) (A : Input → Type 0) (P : List Item → State → Type 
   kept-fire (call_limit i) s there h =
       kept-fail_call P keeps.calls i (error_object (codes "call limit")) s there h
 
-  kept-fire_by : (n t : ℕ) (a : Advanced) → t ≤ bound → P [] a.state → P [] (fire_by n t a).state
+  pub kept-fire_by : (n t : ℕ) (a : Advanced) → t ≤ bound → P [] a.state → P [] (fire_by n t a).state
   unfolding fire_by
   kept-fire_by zero t a low h = h
   kept-fire_by (suc n) t a low h =
@@ -166,12 +166,12 @@ module _ (bound : ℕ) (A : Input → Type 0) (P : List Item → State → Type 
 
   -- ## Calls
 
-  kept-issue_of : (number : ℕ) (run : Option Run) (i : Item) (a : Settled) → next_issued a.state ≡ Some number
+  pub kept-issue_of : (number : ℕ) (run : Option Run) (i : Item) (a : Settled) → next_issued a.state ≡ Some number
       → item_at number a.state ≡ Some i → P [] a.state → P [] (issue_of run i a).state
   kept-issue_of number None i a e there h = keeps.issues number i a.state e there h
   kept-issue_of number (Some r) i a e there h = keeps.issues number i a.state e there h
 
-  kept-issue_found : (number : ℕ) (found : Option Item) (a : Settled) → next_issued a.state ≡ Some number
+  pub kept-issue_found : (number : ℕ) (found : Option Item) (a : Settled) → next_issued a.state ≡ Some number
       → item_at number a.state ≡ found → P [] a.state → P [] (issue_found found a).state
   kept-issue_found number None a e there h = h
   kept-issue_found number (Some i) a e there h =
@@ -190,7 +190,7 @@ module _ (bound : ℕ) (A : Input → Type 0) (P : List Item → State → Type 
 
   -- ## Reopening
 
-  kept-requeue_found : (i : Item) (is : List Item) (found : Option Run) (s : State) → live_run i.run s ≡ found
+  pub kept-requeue_found : (i : Item) (is : List Item) (found : Option Run) (s : State) → live_run i.run s ≡ found
       → P (i ∷ is) s → P is (requeue_found i found s)
   kept-requeue_found i is None s e h = keeps.calls.drops i is s h
   kept-requeue_found i is (Some r) s e h =
@@ -202,7 +202,7 @@ module _ (bound : ℕ) (A : Input → Type 0) (P : List Item → State → Type 
         | false ↦ λ new. keeps.calls.requeues i is r s e new h
       ]) refl
 
-  kept-requeue_all : (is : List Issue) (s : State) → P (map item_of is) s → P [] (requeue_all is s)
+  pub kept-requeue_all : (is : List Issue) (s : State) → P (map item_of is) s → P [] (requeue_all is s)
   kept-requeue_all [] s h = h
   kept-requeue_all (i ∷ is) s h =
       kept-requeue_all is (requeue_found i.item (live_run i.item.run s) s)

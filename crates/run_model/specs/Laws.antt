@@ -2,8 +2,10 @@
 use Rattle.std.specs.Prelude.{◌≡◌, ◌≤◌, ◌<◌, ◌⊎◌, ℕ, List, [], ◌∷◌, ◌++◌}
 use Rattle.std.specs.List.{AllByRecursion}
 use Rattle.std.specs.Option.{IfSome}
-use Rattle.kinds.specs.declared.input.Input.TheVariants.{Tick}
+use Rattle.kinds.specs.declared.input.Input.{Input}
+use Rattle.kinds.specs.declared.input.Input.TheVariants.{Register, Tick}
 use Rattle.kinds.specs.declared.store.StepEntry.{StepEntry}
+use Rattle.functions.specs.declared.entry.FunctionEntry.{FunctionEntry}
 use Rattle.run_model.specs.Machine.{count_input, step}
 use Rattle.run_model.specs.Next.{next_moment}
 use Rattle.run_model.specs.State.{State, Run, at_moment, moment_at}
@@ -25,3 +27,13 @@ OnlyTimePasses s at = IfSome (next_moment s) (λ n. moment_at at s < n)
 abbrev pub IsIn : {X : Type 0} → X → List X → Type 0
 IsIn x [] = ⊥
 IsIn x (y ∷ ys) = (y ≡ x) ⊎ IsIn x ys
+
+-- ## Functions
+
+-- so many versions were given, and these functions are current
+abbrev pub HasFunctions : ℕ → List FunctionEntry → State → Type 0
+HasFunctions versions fs s = (s.versions ≡ versions) × (s.functions ≡ fs)
+
+abbrev pub IsNoRegistration : Input → Type 0
+IsNoRegistration (Register at app) = ⊥
+IsNoRegistration _ = Unit {0}

@@ -2,7 +2,7 @@
 ghost use Rattle.kinds.specs.RunSteps.{result_of};
 ghost use Rattle.kinds.specs.declared.input.Input.{Input};
 ghost use Rattle.kinds.specs.declared.limits.Limits.{Limits};
-ghost use Rattle.run_model.specs.Laws.{AreCounted, Follows};
+ghost use Rattle.run_model.specs.Laws.{AreCounted, Follows, HasFunctions, IsNoRegistration};
 ghost use Rattle.run_model.specs.Machine.{fold, step};
 ghost use Rattle.run_model.specs.State.{State, Run, live_run};
 ghost use Rattle.std.specs.Prelude.{ℕ, List, ◌≡◌, ◌++◌, Some};
@@ -33,4 +33,10 @@ pub fn recorded_steps_stay()
         live_run number (fold limits (inputs ++ more)) ≡ Some after →
         (name text : List ℕ) → result_of name before.steps ≡ Some text →
         result_of name after.steps ≡ Some text }
+{}
+
+/// The current functions, and the count of versions, change by registrations alone.
+pub fn only_registrations_change_functions()
+    ensures { (s : State) (input : Input) → IsNoRegistration input →
+        HasFunctions s.versions s.functions (step s input).state }
 {}

@@ -16,7 +16,8 @@ pub use items::{
     operations_leave_items_aside,
 };
 pub use laws::{
-    numbers_are_counted, numbers_stay_counted, recorded_only_grows, recorded_steps_stay,
+    numbers_are_counted, numbers_stay_counted, only_registrations_change_functions,
+    recorded_only_grows, recorded_steps_stay,
 };
 pub use settling::{calls_send_all_that_is_recorded, nothing_admissible_is_left};
 pub use waiting::{
