@@ -332,8 +332,8 @@ apart-steps : (bound : ℕ) → KeepsSteps bound (λ input. Unit {0}) Beside
 apart-steps bound = record {
   calls = apart-calls;
   counts = λ s h. h;
-  moves = λ t s low h. h;
-  arrives = λ t s low h. h;
+  moves = λ t next s low e h. h;
+  arrives = λ t s low on before h. h;
   issues = λ number i s next there h. apart-issue number i s there h;
   registers = λ at app s asked h. h;
   tidies = apart-tidied;

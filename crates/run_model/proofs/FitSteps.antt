@@ -33,7 +33,7 @@ use Rattle.run_model.proofs.FitRuns.{fit-add_invocation, fit-add_rule, fit-add_s
 use Rattle.run_model.proofs.FitWindows.{fit-filled, fit-fired, fit-joined, fit-started, fit-windows_left}
 use Rattle.run_model.proofs.Kept.{Keeps, keeps-both, window_after, with_offer}
 use Rattle.run_model.proofs.KeptReplies.{KeepsCalls}
-use Rattle.run_model.proofs.KeptSteps.{KeepsSteps, kept-step}
+use Rattle.run_model.proofs.KeptSteps.{KeepsSteps, all_fired, is-due, kept-step}
 use Rattle.run_model.proofs.Members.{all-map, in-all, in-back, in-either, in-filter, in-found, in-front}
 
 -- ## What is tidied
@@ -260,8 +260,9 @@ pub keeps-steps : KeepsSteps last_moment IsInRange FitBeside
 keeps-steps = record {
   calls = keeps-calls;
   counts = λ s h. (fit-rest (s.inputs + 1) s.starts s.ended s h.0, tt);
-  moves = λ t s low h. (fit-moment t s low h.0, tt);
-  arrives = λ t s low h. (fit-arrived t s low h.0, tt);
+  moves = λ t next s low e h.
+      (fit-moment next.due s (omega (arith, low, (is-due t s next e).0)) h.0, tt);
+  arrives = λ t s low on before h. (fit-arrived t (all_fired t s) low h.0, tt);
   issues = λ number i s next there h. (fit-issue number i s there h.0, tt);
   registers = λ at app s ranges h. (fit-registered app s ranges h.0, tt);
   tidies = λ s h. (fit-tidied s h.0, tt);

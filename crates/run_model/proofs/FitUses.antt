@@ -10,16 +10,26 @@ use Rattle.kinds.specs.declared.cell.IssueEntry.{IssueEntry}
 use Rattle.kinds.specs.declared.seen.SeenEntry.{SeenEntry}
 use Rattle.kinds.specs.declared.store.Rule.{Rule}
 use Rattle.kinds.specs.declared.window.Window.{Window}
+use Rattle.kinds.specs.declared.window.Window.TheVariants as window
 use Rattle.kinds.specs.declared.window.WindowRule.{WindowRule}
+use Rattle.kinds.specs.declared.window.WindowRule.TheVariants as rule
 use Rattle.functions.specs.declared.entry.FunctionEntry.{FunctionEntry}
 use Rattle.lists.proofs.Elements.{all-weaker}
 use Rattle.run_model.specs.Events.{window_of, window_rule_of}
 use Rattle.run_model.specs.Fit.{IsFit, IsIssueFit, IsItemFit, IsRuleFit, IsWaitFit, IsWindowFit}
+use Rattle.run_model.specs.Sound.{Suits}
 use Rattle.run_model.specs.State.{State, Issue, Invocation, Sleep, Waiting, in_cells, issue_entries}
 use Rattle.run_model.proofs.Apart.{all-none, not-same}
 use Rattle.run_model.proofs.FitWindows.{is-before}
 use Rattle.run_model.proofs.Kept.{IsFunction, MayJoin}
 use Rattle.run_model.proofs.Members.{all-map}
+
+-- a window that is as its rule says has room for it
+suits-room : (w : Window) (r : WindowRule) → Suits w r → has_room r (Some w) ≡ true
+suits-room (window.Debounce number version value event first due) (rule.Debounce d) h = refl
+suits-room (window.Debounce number version value event first due) (rule.Batch b) h = h
+suits-room (window.Batch number version value events due) (rule.Debounce d) h = h
+suits-room (window.Batch number version value events due) (rule.Batch b) h = h
 
 -- ## New numbers
 
@@ -81,4 +91,4 @@ module _ (s : State) (h : IsFit s) where
     where
       by_window : (found : Option Window) → window_of f.version value s ≡ found → has_room r found ≡ true
       by_window None e = refl
-      by_window (Some w) e = (is-before f r value event s may h w e).room
+      by_window (Some w) e = suits-room w r (is-before f r value event s may h w e).room

@@ -5,7 +5,7 @@ use Rattle.std.specs.Ordering.{is_lt}
 use Rattle.kinds.specs.Cells.{IsStart}
 use Rattle.kinds.specs.Moments.{last_moment}
 use Rattle.kinds.specs.Windows as windows
-use Rattle.kinds.specs.Windows.{IsDated, after_event, has_room, insert_window, is_full, is_of, joined, opened, others}
+use Rattle.kinds.specs.Windows.{IsDated, after_event, capped, has_room, insert_window, is_full, is_of, joined, opened, others}
 use Rattle.kinds.specs.declared.function.Throttle.{Throttle}
 use Rattle.kinds.specs.declared.store.Parent.{Parent}
 use Rattle.kinds.specs.declared.window.Window.{Window}
@@ -21,7 +21,7 @@ use Rattle.run_model.specs.Events.{window_of, window_rule_of}
 use Rattle.run_model.specs.Fit.{AreGiven, HasRoom, IsFit, IsFunctionFit, IsRunFit, IsThrottleInRange, IsWindowFit}
 use Rattle.run_model.specs.Laws.{IsIn}
 use Rattle.run_model.specs.Making.{first_of, text_or_none, throttle_cell}
-use Rattle.run_model.specs.Sound.{ArePairwise, is_same_window}
+use Rattle.run_model.specs.Sound.{ArePairwise, Suits, is_same_window}
 use Rattle.run_model.specs.State.{State, Run, text_of}
 use Rattle.run_model.proofs.FitCounts.{fit-entries, fit-live, fit-runs, fit-windows}
 use Rattle.run_model.proofs.FitShifts.{shift-within}
@@ -87,7 +87,7 @@ fit-fired f w s there stands h =
 pub record IsBefore (events entries versions : ℕ) (f : FunctionEntry) (r : WindowRule) (w : Window) : Type 0 where
   pub fits : IsWindowFit events entries versions w
   pub own : f.version ≡ windows.version_of w
-  pub room : has_room r (Some w) ≡ true
+  pub room : Suits w r
 
 joined-given : (events : ℕ) (r : WindowRule) (event t : ℕ) (w : Window) → event ≤ events
     → AreGiven events (windows.events_of w) → AreGiven events (windows.events_of (joined r event t w))
@@ -111,7 +111,14 @@ joined-number (rule.Debounce d) event t (window.Batch number version value es du
 joined-number (rule.Batch b) event t (window.Debounce number version value last first due) = refl
 joined-number (rule.Batch b) event t (window.Batch number version value es due) = refl
 
-joined-version : (r : WindowRule) (event t : ℕ) (w : Window)
+pub joined-value : (r : WindowRule) (event t : ℕ) (w : Window)
+    → windows.value_of (joined r event t w) ≡ windows.value_of w
+joined-value (rule.Debounce d) event t (window.Debounce number version value last first due) = refl
+joined-value (rule.Debounce d) event t (window.Batch number version value es due) = refl
+joined-value (rule.Batch b) event t (window.Debounce number version value last first due) = refl
+joined-value (rule.Batch b) event t (window.Batch number version value es due) = refl
+
+pub joined-version : (r : WindowRule) (event t : ℕ) (w : Window)
     → windows.version_of (joined r event t w) ≡ windows.version_of w
 joined-version (rule.Debounce d) event t (window.Debounce number version value last first due) = refl
 joined-version (rule.Debounce d) event t (window.Batch number version value es due) = refl
@@ -122,12 +129,19 @@ joined-version (rule.Batch b) event t (window.Batch number version value es due)
 not-full : (size n : ℕ) → nat_le size n ≡ false → nat_lt n size ≡ true
 not-full size n e = grind (arith, e)
 
-joined-room : (r : WindowRule) (event t : ℕ) (w : Window) → has_room r (Some w) ≡ true
-    → is_full r (joined r event t w) ≡ false → has_room r (Some (joined r event t w)) ≡ true
-joined-room (rule.Debounce d) event t (window.Debounce number version value last first due) h e = refl
-joined-room (rule.Debounce d) event t (window.Batch number version value es due) h e = h
-joined-room (rule.Batch b) event t (window.Debounce number version value last first due) h e = h
-joined-room (rule.Batch b) event t (window.Batch number version value es due) h e =
+-- the lesser of a due and a bound
+capped-within : (timeout : Option ℕ) (first due : ℕ)
+    → IfSome timeout (λ most. capped (option_map (λ most. first + most) timeout) due ≤ first + most)
+capped-within None first due = tt
+capped-within (Some most) first due = grind arith
+
+joined-suits : (r : WindowRule) (event t : ℕ) (w : Window) → Suits w r
+    → is_full r (joined r event t w) ≡ false → Suits (joined r event t w) r
+joined-suits (rule.Debounce d) event t (window.Debounce number version value last first due) h e =
+    capped-within d.timeout first (t + d.period)
+joined-suits (rule.Debounce d) event t (window.Batch number version value es due) h e = h
+joined-suits (rule.Batch b) event t (window.Debounce number version value last first due) h e = h
+joined-suits (rule.Batch b) event t (window.Batch number version value es due) h e =
     not-full b.size (length (es ++ event ∷ [])) e
 
 opened-fit : (events entries versions : ℕ) (r : WindowRule) (version : ℕ) (value : List ℕ) (event t : ℕ)
@@ -148,11 +162,11 @@ opened-given : (events : ℕ) (r : WindowRule) (version : ℕ) (value : List ℕ
 opened-given events (rule.Debounce d) version value event t number given = (given, tt)
 opened-given events (rule.Batch b) version value event t number given = (given, tt)
 
-opened-room : (r : WindowRule) (version : ℕ) (value : List ℕ) (event t number : ℕ)
+opened-suits : (r : WindowRule) (version : ℕ) (value : List ℕ) (event t number : ℕ)
     → is_full r (opened r version value event t number) ≡ false
-    → has_room r (Some (opened r version value event t number)) ≡ true
-opened-room (rule.Debounce d) version value event t number e = refl
-opened-room (rule.Batch b) version value event t number e = not-full b.size (length (event ∷ [])) e
+    → Suits (opened r version value event t number) r
+opened-suits (rule.Debounce d) version value event t number e = capped-within d.timeout t (t + d.period)
+opened-suits (rule.Batch b) version value event t number e = not-full b.size (length (event ∷ [])) e
 
 -- ## The window that is there before
 
@@ -172,7 +186,7 @@ is-before f r value event s may h w e =
     record {
       fits = in-all (IsWindowFit s.events s.entries s.versions) w s.windows stands h.windows_fit.each;
       own = own;
-      room = subst (λ (o : Option WindowRule). IfSome o (λ r. has_room r (Some w) ≡ true)) may.rule
+      room = subst (λ (o : Option WindowRule). IfSome o (Suits w)) may.rule
           (in-all (HasRoom f) w s.windows stands (h.windows_fit.room f may.there) own);
     }
 
@@ -223,12 +237,12 @@ apart-inserted w (v ∷ ws) h apart =
       )
     ]
 
-abbrev replaced : Window → State → List Window
+abbrev pub replaced : Window → State → List Window
 replaced w s = insert_window w (others (windows.version_of w) (windows.value_of w) s.windows)
 
 fit-replaced : (f : FunctionEntry) (r : WindowRule) (w : Window) (s : State)
     → IsFunction f s → window_rule_of f.function ≡ Some r → windows.version_of w ≡ f.version
-    → IsWindowFit s.events s.entries s.versions w → has_room r (Some w) ≡ true → IsFit s
+    → IsWindowFit s.events s.entries s.versions w → Suits w r → IsFit s
     → IsFit (record s { windows = replaced w s })
 fit-replaced f r w s there e own fits room h =
     let test : Window → Bool = λ v. not (is_of (windows.version_of w) (windows.value_of w) v) in
@@ -237,9 +251,8 @@ fit-replaced f r w s there e own fits room h =
       each = all-inserted_in (IsWindowFit s.events s.entries s.versions) w (filter test s.windows) fits
           (all-filter (IsWindowFit s.events s.entries s.versions) test s.windows h.windows_fit.each);
       room = λ g stands. all-inserted_in (HasRoom g) w (filter test s.windows)
-          (λ same. subst (λ (k : FunctionEntry). IfSome (window_rule_of k.function)
-          (λ r. has_room r (Some w) ≡ true)) (h.functions_fit.one f g there stands (sym (same ∙ own)))
-          (subst (λ (o : Option WindowRule). IfSome o (λ r. has_room r (Some w) ≡ true)) (sym e) room))
+          (λ same. subst (λ (k : FunctionEntry). IfSome (window_rule_of k.function) (Suits w)) (h.functions_fit.one f g there stands (sym (same ∙ own)))
+          (subst (λ (o : Option WindowRule). IfSome o (Suits w)) (sym e) room))
           (all-filter (HasRoom g) test s.windows (h.windows_fit.room g stands));
       apart = apart-inserted w (filter test s.windows)
           (all-weaker (λ v. test v ≡ true) (λ v. is_same_window w v ≡ false) (filter test s.windows)
@@ -248,7 +261,7 @@ fit-replaced f r w s there e own fits room h =
     }) h
 
 -- the state with a window after an event, full or not, and one before it or not
-abbrev with_after : Bool → Bool → Window → State → State
+abbrev pub with_after : Bool → Bool → Window → State → State
 with_after full there w s = record s {
   windows = cond full (others (windows.version_of w) (windows.value_of w) s.windows) (replaced w s);
   entries = cond (not (there || full)) (s.entries + 1) s.entries;
@@ -265,7 +278,7 @@ fit-joins f r value event s None may known e h =
     fit-replaced f r w t may.there may.rule (opened-version r f.version value event s.moment (s.entries + 1))
     (opened-fit s.events s.entries s.versions r f.version value event s.moment
     (h.functions_fit.each f may.there).version may.given h.dated)
-    (opened-room r f.version value event s.moment (s.entries + 1) e) (fit-entries s h)
+    (opened-suits r f.version value event s.moment (s.entries + 1) e) (fit-entries s h)
 fit-joins f r value event s (Some w) may known e h =
     let was : IsBefore s.events s.entries s.versions f r w = known w refl in
     let number = joined-number r event s.moment w in
@@ -276,7 +289,7 @@ fit-joins f r value event s (Some w) may known e h =
       version = subst (λ n. n ≤ s.versions) (sym version) was.fits.version;
       named = joined-given s.events r event s.moment w may.given was.fits.named;
       dated = joined-dated r event s.moment w was.fits.dated;
-    }) (joined-room r event s.moment w was.room e) h
+    }) (joined-suits r event s.moment w was.room e) h
 
 pub fit-joined : (f : FunctionEntry) (r : WindowRule) (value : List ℕ) (event : ℕ) (s : State)
     → MayJoin f r event s → is_full r (window_after f r value event s) ≡ false → IsFit s

@@ -95,13 +95,13 @@ fit-on_call_failed call s h = (kept-on_call_failed FitBeside keeps-calls call s 
 
 -- ## Steps
 
--- a window that is over, or a call past its limit, is one of the state
+-- what is over is one of the state
 pub fit-fire : (e : Timed) (s : State) → IsThere s e → IsFit s → IsFit (fire e s)
 fit-fire e s there h =
     (kept-fire last_moment IsInRange FitBeside keeps-steps e s there (h, tt)).0
 
-pub fit-advance : (t : ℕ) (s : State) → t ≤ last_moment → IsFit s → IsFit (advance t s).state
-fit-advance t s low h = (kept-advance last_moment IsInRange FitBeside keeps-steps t s low (h, tt)).0
+pub fit-advance : (t : ℕ) (s : State) → t ≤ last_moment → s.moment ≤ t → IsFit s → IsFit (advance t s).state
+fit-advance t s low on h = (kept-advance last_moment IsInRange FitBeside keeps-steps t s low on (h, tt)).0
 
 pub fit-reopen : (s : State) → IsFit s → IsFit (reopen s)
 fit-reopen s h = (kept-reopen last_moment IsInRange FitBeside keeps-steps s (h, tt)).0

@@ -1,5 +1,5 @@
 -- The current functions and the count of versions change by registrations alone.
-use Rattle.std.proofs.Common.{ℕ, List, Option, Some, None, refl, arith}
+use Rattle.std.proofs.Common.{ℕ, ◌≤◌, List, Option, Some, None, refl, arith}
 use Rattle.kinds.specs.Inputs.{reading}
 use Rattle.kinds.specs.declared.event.EventIn.{EventIn}
 use Rattle.kinds.specs.declared.input.Input.{Input}
@@ -62,17 +62,17 @@ module _ (versions : ℕ) (fs : List FunctionEntry) where
   functions-steps bound = record {
     calls = functions-calls;
     counts = λ s h. h;
-    moves = λ t s low h. h;
-    arrives = λ t s low h. h;
+    moves = λ t next s low e h. h;
+    arrives = λ t s low on before h. h;
     issues = λ number i s next there h. h;
     registers = λ at app s none h. absurd none;
     tidies = functions-tidied;
   }
 
-pub functions-advance : (t : ℕ) (s : State) → HasFunctions s.versions s.functions (advance t s).state
-functions-advance t s =
+pub functions-advance : (t : ℕ) (s : State) → s.moment ≤ t → HasFunctions s.versions s.functions (advance t s).state
+functions-advance t s on =
     kept-advance t IsNoRegistration (λ is u. HasFunctions s.versions s.functions u)
-    (functions-steps s.versions s.functions t) t s (omega arith) (refl, refl)
+    (functions-steps s.versions s.functions t) t s (omega arith) on (refl, refl)
 
 pub functions-step : (s : State) (input : Input) → IsNoRegistration input
     → HasFunctions s.versions s.functions (step s input).state

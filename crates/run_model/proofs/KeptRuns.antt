@@ -123,8 +123,8 @@ module _ (K : ℕ → List Run → Type 0) (stays : Stays K) where
   keeps-steps bound = record {
     calls = keeps-calls;
     counts = λ s h. h;
-    moves = λ t s low h. h;
-    arrives = λ t s low h. h;
+    moves = λ t next s low e h. h;
+    arrives = λ t s low on before h. h;
     issues = λ number i s next there h. stays.changes s.runs i.run (called i) s.live (grows-called i) h;
     registers = λ at app s asked h. h;
     tidies = λ s h. holds-tidied s h;

@@ -1,8 +1,9 @@
 -- What is due, the calls that are made, and each input keep what each change keeps: so does a step.
-use Rattle.std.proofs.Common.{◌≡◌, ℕ, zero, suc, ◌≤◌, ◌==◌, Bool, true, false, not, cond, List, [], ◌∷◌, ◌++◌, map, codes, length, nat_le, Option, Some, None, IfSome, refl, subst, arith}
+use Rattle.std.proofs.Common.{◌≡◌, ℕ, zero, suc, ◌≤◌, ◌==◌, Bool, true, false, not, cond, List, [], ◌∷◌, ◌++◌, map, codes, length, min, max, nat_le, Option, Some, None, IfSome, refl, subst, arith}
 use Rattle.std.specs.List.{AllByRecursion}
 use Rattle.kinds.specs.ErrorObject.{error_object}
 use Rattle.kinds.specs.Inputs.{reading}
+use Rattle.kinds.specs.Moments.{last_moment}
 use Rattle.kinds.specs.RunSteps.{is_recorded}
 use Rattle.kinds.specs.Windows as windows
 use Rattle.kinds.specs.declared.function.App.{App}
@@ -25,18 +26,24 @@ use Rattle.run_model.specs.State.{State, Run, Issue, Sleep, Invocation, at_momen
 use Rattle.run_model.proofs.Kept.{kept-discover, kept-make_run, own-number}
 use Rattle.run_model.proofs.KeptEvents.{kept-cancel_found, kept-end_wait, kept-on_events}
 use Rattle.run_model.proofs.KeptReplies.{KeepsCalls, kept-fail_call, kept-on_call_failed, kept-on_reply}
-use Rattle.run_model.proofs.Members.{all-map, all-unit, each-in, in-found}
+use Rattle.run_model.proofs.Members.{all-map, each-in, in-found}
 use Rattle.run_model.proofs.SettlingLists.{all-append, same-some}
 
 -- ## The changes
+
+-- all that is due by a moment has happened
+abbrev pub all_fired : ℕ → State → State
+all_fired t s = (fire_by most t (record { state = s; hangs = [] })).state
 
 -- moments are at most a bound, and inputs are such as is asked
 pub record KeepsSteps (bound : ℕ) (A : Input → Type 0) (P : List Item → State → Type 0) : Type 0 where
   pub calls : KeepsCalls P
   -- an input is counted, and time goes on
   pub counts : (s : State) → P [] s → P [] (count_input s)
-  pub moves : (t : ℕ) (s : State) → t ≤ bound → P [] s → P [] (record s { moment = t })
-  pub arrives : (t : ℕ) (s : State) → t ≤ bound → P [] s → P [] (at_moment t s)
+  pub moves : (t : ℕ) (next : Next) (s : State) → t ≤ bound → due_by t s ≡ Some next → P [] s
+      → P [] (record s { moment = next.due })
+  pub arrives : (t : ℕ) (s : State) → t ≤ bound → s.moment ≤ t → P [] s → P [] (all_fired t s)
+      → P [] (at_moment t (all_fired t s))
   -- a call is made
   pub issues : (number : ℕ) (i : Item) (s : State) → next_issued s ≡ Some number → item_at number s ≡ Some i
       → P [] s → P [] (issue i s)
@@ -45,11 +52,13 @@ pub record KeepsSteps (bound : ℕ) (A : Input → Type 0) (P : List Item → St
 
 -- ## What is due is there
 
--- windows and open calls are
 abbrev pub IsThere : State → Timed → Type 0
+IsThere s (sleep_end e) = IsIn e s.sleeps
+IsThere s (wait_end e) = IsIn e s.waits
+IsThere s (invocation_end e) = IsIn e s.invocations
 IsThere s (window_end w) = IsIn w s.windows
+IsThere s (rule_end e) = IsIn e s.rules
 IsThere s (call_limit i) = IsIn i s.issues
-IsThere s _ = Unit {0}
 
 all-there : (s : State) → AllByRecursion (IsThere s) (timed s)
 unfolding timed
@@ -64,11 +73,11 @@ all-there s =
     (all-append There (a ++ b ++ c ++ d) e
     (all-append There (a ++ b ++ c) d
     (all-append There (a ++ b) c
-    (all-append There a b (all-map There sleep_end s.sleeps (all-unit s.sleeps))
-    (all-map There wait_end s.waits (all-unit s.waits)))
-    (all-map There invocation_end s.invocations (all-unit s.invocations)))
+    (all-append There a b (all-map There sleep_end s.sleeps (each-in s.sleeps))
+    (all-map There wait_end s.waits (each-in s.waits)))
+    (all-map There invocation_end s.invocations (each-in s.invocations)))
     (all-map There window_end s.windows (each-in s.windows)))
-    (all-map There rule_end s.rules (all-unit s.rules)))
+    (all-map There rule_end s.rules (each-in s.rules)))
     (all-map There call_limit s.issues (each-in s.issues))
 
 -- what holds of each holds of the least
@@ -109,6 +118,10 @@ is-due t s next e =
 
 abbrev has_version : ℕ → FunctionEntry → Bool
 has_version version f = version == f.version
+
+-- an input's moment isn't before the state's
+pub goes-on : (a b : ℕ) → a ≤ max a b
+goes-on a b = grind arith
 
 module _ (bound : ℕ) (A : Input → Type 0) (P : List Item → State → Type 0) (keeps : KeepsSteps bound A P) where
   -- ## What is due
@@ -155,14 +168,13 @@ module _ (bound : ℕ) (A : Input → Type 0) (P : List Item → State → Type 
             let due : (next.due ≤ t) × IsThere a.state next.entry = is-due t a.state next e in
             kept-fire_by n t (fired next a) low
             (kept-fire next.entry (record a.state { moment = next.due }) due.1
-            (keeps.moves next.due a.state (omega (arith, low, due.0)) h))
+            (keeps.moves t next a.state low e h))
       ]) refl
 
-  pub kept-advance : (t : ℕ) (s : State) → t ≤ bound → P [] s → P [] (advance t s).state
+  pub kept-advance : (t : ℕ) (s : State) → t ≤ bound → s.moment ≤ t → P [] s → P [] (advance t s).state
   unfolding advance
-  kept-advance t s low h =
-      let a : Advanced = record { state = s; hangs = [] } in
-      keeps.arrives t (fire_by most t a).state low (kept-fire_by most t a low h)
+  kept-advance t s low goes_on h =
+      keeps.arrives t s low goes_on h (kept-fire_by most t (record { state = s; hangs = [] }) low h)
 
   -- ## Calls
 
@@ -240,4 +252,5 @@ module _ (bound : ℕ) (A : Input → Type 0) (P : List Item → State → Type 
       let a : Advanced = advance (moment_at (reading input) s) (count_input s) in
       kept-settled (act input a.state).state
       (kept-act input a.state asked
-      (kept-advance (moment_at (reading input) s) (count_input s) low (keeps.counts s h)))
+      (kept-advance (moment_at (reading input) s) (count_input s) low
+      (goes-on s.moment (min (reading input) last_moment)) (keeps.counts s h)))

@@ -278,8 +278,8 @@ limited-steps : (bound : ℕ) → KeepsSteps bound (λ input. Unit {0}) LimitedB
 limited-steps bound = record {
   calls = limited-calls;
   counts = λ s h. h;
-  moves = λ t s low h. h;
-  arrives = λ t s low h. h;
+  moves = λ t next s low e h. h;
+  arrives = λ t s low on before h. h;
   issues = λ number i s next there h.
       (apart-issue number i s there h.0, limited-issue number i s next there h);
   registers = λ at app s asked h. h;

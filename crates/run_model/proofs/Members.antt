@@ -1,8 +1,8 @@
 -- The items of a list: where one is found, and what holds of each holds of one.
-use Rattle.std.proofs.Common.{◌≡◌, ◌⊎◌, inl, inr, Bool, true, false, cond, List, [], ◌∷◌, ◌++◌, map, filter, find, Some, IfSome, refl, subst}
-use Rattle.std.specs.List.{AllByRecursion}
+use Rattle.std.proofs.Common.{◌≡◌, ◌⊎◌, inl, inr, Bool, true, false, cond, List, [], ◌∷◌, ◌++◌, map, filter, find, Some, IfSome, refl, sym, subst}
+use Rattle.std.specs.List.{AllByRecursion, list_any}
 use Rattle.run_model.specs.Laws.{IsIn}
-use Rattle.run_model.proofs.SettlingLists.{same-some}
+use Rattle.run_model.proofs.SettlingLists.{or-left, or-right, same-some}
 
 pub in-all : {X : Type 0} (P : X → Type 0) (x : X) (xs : List X) → IsIn x xs → AllByRecursion P xs → P x
 in-all P x [] there h = absurd there
@@ -71,5 +71,8 @@ pub all-map : {X Y : Type 0} (P : Y → Type 0) (f : X → Y) (xs : List X) → 
 all-map P f [] h = tt
 all-map P f (x ∷ xs) h = (h.0, all-map P f xs h.1)
 
-pub all-unit : {X : Type 0} (xs : List X) → AllByRecursion (λ x. Unit {0}) xs
-all-unit xs = all-in (λ x. Unit {0}) xs (λ x there. tt)
+-- where an item of a list passes, one does
+pub any-in : {X : Type 0} (p : X → Bool) (x : X) (xs : List X) → IsIn x xs → p x ≡ true → list_any p xs ≡ true
+any-in p x [] there e = absurd there
+any-in p x (y ∷ ys) (inl same) e = or-left (p y) (list_any p ys) (subst (λ z. p z ≡ true) (sym same) e)
+any-in p x (y ∷ ys) (inr there) e = or-right (p y) (list_any p ys) (any-in p x ys there e)

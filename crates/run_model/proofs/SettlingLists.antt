@@ -73,7 +73,7 @@ find-filter p q (x ∷ xs) h = by_tests (p x) (q x) refl (h x) (find-filter p q 
     by_tests false true e w more = rw e more
     by_tests false false e w more = more
 
-length-left : {X : Type 0} (p : X → Bool) (xs : List X) → length (filter p xs) ≤ length xs
+pub length-left : {X : Type 0} (p : X → Bool) (xs : List X) → length (filter p xs) ≤ length xs
 length-left p [] = omega arith
 length-left p (x ∷ xs) = by_test (p x) (length-left p xs)
   where

@@ -1,7 +1,8 @@
 -- No item is queued for a step that is recorded, at each change and so through each step; so no call is made for one.
-use Rattle.std.proofs.Common.{◌≡◌, ℕ, ◌+◌, ◌==◌, Bool, true, false, not, ◌&&◌, ◌||◌, cond, List, [], ◌∷◌, ◌++◌, filter, find, Option, Some, None, IfSome, is_some, option_map, refl, sym, ap, ◌∙◌, subst, bytes_eq, arith, eqb-true}
+use Rattle.std.proofs.Common.{◌≡◌, ℕ, ◌+◌, ◌==◌, Bool, true, false, not, ◌&&◌, ◌||◌, cond, List, [], ◌∷◌, ◌++◌, filter, find, min, Option, Some, None, IfSome, is_some, option_map, refl, sym, ap, ◌∙◌, subst, bytes_eq, arith, eqb-true}
 use Rattle.std.specs.List.{AllByRecursion}
 use Rattle.kinds.specs.Inputs.{reading}
+use Rattle.kinds.specs.Moments.{last_moment}
 use Rattle.kinds.specs.Queue.{has_number, has_run, without_number}
 use Rattle.kinds.specs.RunSteps.{known, has_name, is_known, is_pending, is_planned, is_recorded, note_plan, pend_step, plan_step, with_room}
 use Rattle.kinds.specs.Windows as windows
@@ -31,7 +32,7 @@ use Rattle.run_model.proofs.FitRuns.{all-queued}
 use Rattle.run_model.proofs.FitWindows.{not-true}
 use Rattle.run_model.proofs.Kept.{Adds, IsLive, Keeps, run_from, window_after, with_offer}
 use Rattle.run_model.proofs.KeptReplies.{KeepsCalls}
-use Rattle.run_model.proofs.KeptSteps.{KeepsSteps, kept-act, kept-advance, kept-step}
+use Rattle.run_model.proofs.KeptSteps.{KeepsSteps, goes-on, kept-act, kept-advance, kept-step}
 use Rattle.run_model.proofs.Members.{in-all, in-found}
 use Rattle.run_model.proofs.SettlingLists.{find-map, found-passes}
 use Rattle.run_model.proofs.SettlingOuts.{Says, said-step}
@@ -267,8 +268,8 @@ pub new-steps : (bound : ℕ) → KeepsSteps bound (λ input. Unit {0}) (λ is s
 new-steps bound = record {
   calls = new-calls;
   counts = λ s h. h;
-  moves = λ t s low h. h;
-  arrives = λ t s low h. h;
+  moves = λ t next s low e h. h;
+  arrives = λ t s low on before h. h;
   issues = λ number i s next there h. new-issue i s h;
   registers = λ at app s asked h. h;
   tidies = λ s h. new-tidied s h;
@@ -333,7 +334,8 @@ called-new s input h =
     said-step AreItemsNew CallsNew says-new s input
     (kept-act t (λ input. Unit {0}) (λ is s. AreItemsNew s) (new-steps t) input
     (advance t (count_input s)).state tt
-    (kept-advance t (λ input. Unit {0}) (λ is s. AreItemsNew s) (new-steps t) t (count_input s) (omega arith) h))
+    (kept-advance t (λ input. Unit {0}) (λ is s. AreItemsNew s) (new-steps t) t (count_input s) (omega arith)
+    (goes-on s.moment (min (reading input) last_moment)) h))
 
 pub called-new_in : (limits : Limits) (inputs : List Input) (input : Input)
     → AllByRecursion (CallsNew (step (fold limits inputs) input).state) (step (fold limits inputs) input).outs

@@ -7,7 +7,7 @@ use Rattle.kinds.specs.Cells.{IsStart, IsThrottle}
 use Rattle.kinds.specs.Moments.{last_moment}
 use Rattle.kinds.specs.Queue.{has_number}
 use Rattle.kinds.specs.Windows as windows
-use Rattle.kinds.specs.Windows.{IsDated, IsRule, has_room}
+use Rattle.kinds.specs.Windows.{IsDated, IsRule}
 use Rattle.kinds.specs.declared.function.App.{App}
 use Rattle.kinds.specs.declared.function.Function.{Function}
 use Rattle.kinds.specs.declared.function.Throttle.{Throttle}
@@ -24,7 +24,7 @@ use Rattle.run_model.specs.Events.{window_rule_of}
 use Rattle.run_model.specs.Expressions.{most_shift}
 use Rattle.run_model.specs.Laws.{IsIn}
 use Rattle.run_model.specs.Making.{throttle_cell}
-use Rattle.run_model.specs.Sound.{ArePairwise, is_same_window}
+use Rattle.run_model.specs.Sound.{ArePairwise, Suits, is_same_window}
 use Rattle.run_model.specs.State.{State, Run, Issue, EventText, Sleep, Waiting, Invocation}
 
 -- ## Functions
@@ -116,10 +116,10 @@ pub record AreConditionsFit (events entries : ℕ) (texts : List EventText) (wai
 
 -- ## Windows
 
--- where the function is of the window's version, and has a rule for windows, the window has room for it
+-- where the function is of the window's version, and has a rule for windows, the window is such as the rule says: a
+-- batch has room, and a debounce is due by its timeout
 abbrev pub HasRoom : FunctionEntry → Window → Type 0
-HasRoom f w = f.version ≡ windows.version_of w
-    → IfSome (window_rule_of f.function) (λ r. has_room r (Some w) ≡ true)
+HasRoom f w = f.version ≡ windows.version_of w → IfSome (window_rule_of f.function) (Suits w)
 
 pub record IsWindowFit (events entries versions : ℕ) (w : Window) : Type 0 where
   pub number : windows.number_of w ≤ entries
