@@ -60,7 +60,7 @@ pub all-none : {X : Type 0} (p : X → Bool) (xs : List X) → AllByRecursion (�
 all-none p [] h = refl
 all-none p (x ∷ xs) h = rw h.0 (all-none p xs h.1)
 
-all-unmap : {X Y : Type 0} (P : Y → Type 0) (f : X → Y) (xs : List X) → AllByRecursion P (map f xs)
+pub all-unmap : {X Y : Type 0} (P : Y → Type 0) (f : X → Y) (xs : List X) → AllByRecursion P (map f xs)
     → AllByRecursion (λ x. P (f x)) xs
 all-unmap P f [] h = tt
 all-unmap P f (x ∷ xs) h = (h.0, all-unmap P f xs h.1)

@@ -48,7 +48,7 @@ all-queued P i (j ∷ is) own h =
 
 -- ## Runs that change
 
-all-changed : (P : Run → Type 0) (number : ℕ) (f : Run → Run) (rs : List Run) → ((r : Run) → P r → P (f r))
+pub all-changed : (P : Run → Type 0) (number : ℕ) (f : Run → Run) (rs : List Run) → ((r : Run) → P r → P (f r))
     → AllByRecursion P rs → AllByRecursion P (changed number f rs)
 all-changed P number f [] keeps h = h
 all-changed P number f (r ∷ rs) keeps h =

@@ -192,7 +192,7 @@ is-before f r value event s may h w e =
 
 -- ## A window that takes an event and stays
 
-all-inserted_in : (P : Window → Type 0) (w : Window) (ws : List Window) → P w → AllByRecursion P ws
+pub all-inserted_in : (P : Window → Type 0) (w : Window) (ws : List Window) → P w → AllByRecursion P ws
     → AllByRecursion P (insert_window w ws)
 all-inserted_in P w [] own h = (own, tt)
 all-inserted_in P w (v ∷ ws) own h =

@@ -1,6 +1,5 @@
 -- How much is due: each thing that falls due took an entry number, so that all happens before the numbers end.
-use Rattle.std.proofs.Common.{◌≡◌, ℕ, zero, suc, ◌⊎◌, inl, inr, ◌+◌, ◌<◌, ◌≤◌, ◌==◌, ◌^◌, Bool, true, false, not, ◌&&◌, ◌||◌, cond, List, [], ◌∷◌, ◌++◌, filter, find, length, codes, Option, Some, None, is_some, refl, sym, ap, subst, eq-eqb, arith, bytes_eq}
-use Rattle.std.specs.List.{list_any}
+use Rattle.std.proofs.Common.{◌≡◌, ℕ, zero, suc, ◌⊎◌, inl, inr, ◌+◌, ◌<◌, ◌≤◌, ◌==◌, Bool, true, false, not, cond, List, [], ◌∷◌, ◌++◌, filter, find, length, codes, Option, Some, None, is_some, refl, sym, subst, eq-eqb, arith}
 use Rattle.std.specs.Option.{option_map}
 use Rattle.std.specs.Ordering.{is_lt}
 use Rattle.kinds.specs.ErrorObject.{error_object}
@@ -19,14 +18,14 @@ use Rattle.lists.proofs.Texts.{bytes_self}
 use Rattle.lists.specs.Entries.{key_of, pair_cmp}
 use Rattle.run_model.specs.Advance.{Advanced, Timed, sleep_end, wait_end, invocation_end, window_end, rule_end, call_limit, due_by, fire, fire_by, fired, make_found, most, timed_out, without_invocation, without_rule, without_sleep, without_window}
 use Rattle.run_model.specs.Ends.{end_run}
-use Rattle.run_model.specs.Events.{add_event, event_with, has_wait, window_of, without_wait}
+use Rattle.run_model.specs.Events.{add_event, event_with, window_of, without_wait}
 use Rattle.run_model.specs.Laws.{IsIn}
 use Rattle.run_model.specs.Making.{add_rule, first_of, new_rule}
 use Rattle.run_model.specs.Recording.{record_result}
 use Rattle.run_model.specs.Replies.{add_invocation, add_sleep, add_wait, close, due_at, new_sleep, retry, wait_with}
 use Rattle.run_model.specs.Requests.{remember}
 use Rattle.run_model.specs.State.{State, Run, Issue, Invocation, Sleep, Waiting, function_at}
-use Rattle.run_model.proofs.FitWindows.{joined-value, joined-version, replaced, with_after}
+use Rattle.run_model.proofs.FitWindows.{joined-value, joined-version, with_after}
 use Rattle.run_model.proofs.Kept.{Keeps, kept-discover, kept-make_run, window_after, with_offer}
 use Rattle.run_model.proofs.KeptReplies.{KeepsCalls, kept-retry}
 use Rattle.run_model.proofs.KeptSteps.{IsThere, all_fired, is-due}
@@ -43,7 +42,7 @@ timed_count s =
 abbrev pub AreFew : ℕ → State → Type 0
 AreFew c s = timed_count s + c ≤ s.entries
 
-length-last : {X : Type 0} (xs : List X) (x : X) → length (xs ++ x ∷ []) ≡ length xs + 1
+pub length-last : {X : Type 0} (xs : List X) (x : X) → length (xs ++ x ∷ []) ≡ length xs + 1
 length-last [] x = omega arith
 length-last (y ∷ ys) x = let more = length-last ys x in omega (arith, more)
 
@@ -152,7 +151,7 @@ few-invocation c r name child t s h =
 few-next : (n entries : ℕ) → n ≤ entries → n ≤ entries + 1
 few-next n entries h = omega (arith, h)
 
-keeps-few : (c : ℕ) → Keeps (AreFew c)
+pub keeps-few : (c : ℕ) → Keeps (AreFew c)
 keeps-few c = record {
   accepts = λ event id s new h. few-accepted c event id s h;
   starts = λ f event parent s there given h. h;
@@ -181,7 +180,7 @@ few-issues : (c : ℕ) (test : Issue → Bool) (s : State) → AreFew c s
     → AreFew c (record s { issues = filter test s.issues })
 few-issues c test s h = let less = length-left test s.issues in omega (arith, h, less)
 
-few-calls : (c : ℕ) → KeepsCalls (λ is s. AreFew c s)
+pub few-calls : (c : ℕ) → KeepsCalls (λ is s. AreFew c s)
 few-calls c = record {
   runs = λ is. keeps-few c;
   closes = λ i s there h. few-issues c (λ (other : Issue). not (i.call == other.call)) s h;

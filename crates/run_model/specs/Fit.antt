@@ -1,6 +1,6 @@
 -- What holds in the midst of a step, and what keeps a state needs: numbers are at most their counts, buckets are
 -- those of their conditions, windows have room, and what is kept is in its range.
-use Rattle.std.specs.Prelude.{ℕ, unsigned_abs, ◌≡◌, ◌≢◌, ◌≤◌, ◌==◌, true, false, List, [], ◌++◌, map, find, Option, Some, None}
+use Rattle.std.specs.Prelude.{ℕ, unsigned_abs, ◌≡◌, ◌≢◌, ◌≤◌, ◌==◌, false, List, [], ◌++◌, map, find, Option, None}
 use Rattle.std.specs.List.{AllByRecursion}
 use Rattle.std.specs.Option.{IfSome}
 use Rattle.kinds.specs.Cells.{IsStart, IsThrottle}

@@ -21,6 +21,6 @@ pub use laws::{
 };
 pub use settling::{calls_send_all_that_is_recorded, nothing_admissible_is_left};
 pub use waiting::{
-    nothing_happens_before_the_next_moment, only_time_passes_before_the_next_moment,
-    steps_are_tidied,
+    nothing_happens_before_the_next_moment, nothing_is_overdue,
+    only_time_passes_before_the_next_moment, runs_are_dated, steps_are_tidied,
 };
