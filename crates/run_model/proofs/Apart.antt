@@ -23,7 +23,7 @@ use Rattle.run_model.specs.Sound.{ArePairwise}
 use Rattle.run_model.specs.State.{State, Issue, empty, moment_at, open_issue, tidied}
 use Rattle.run_model.proofs.FitRuns.{all-queued}
 use Rattle.run_model.proofs.FitWindows.{not-true, pairs-filter}
-use Rattle.run_model.proofs.Kept.{Keeps, window_after, with_offer}
+use Rattle.run_model.proofs.Kept.{Keeps, freely, window_after, with_offer}
 use Rattle.run_model.proofs.KeptReplies.{KeepsCalls, kept-take_operations}
 use Rattle.run_model.proofs.KeptSteps.{KeepsSteps, kept-step}
 use Rattle.run_model.proofs.Members.{all-map, in-all, in-found}
@@ -198,7 +198,7 @@ apart-offered is f r value event s h =
     (takes_number r (window_of f.version value s) (window_after f r value event s)) h
 
 pub keeps-apart : (is : List Item) → Keeps (Beside is)
-keeps-apart is = record {
+keeps-apart is = freely (Beside is) (record {
   accepts = λ event id s new h. apart-accepted is event id s h;
   starts = λ f event parent s there given h. h;
   fills = λ f r value event s may full h. apart-offered is f r value event s h;
@@ -223,7 +223,7 @@ keeps-apart is = record {
   waits_go = λ test s h. h;
   invocations_go = λ test s h. h;
   rules_go = λ test s h. h;
-}
+})
 
 -- ## Calls
 
@@ -386,7 +386,7 @@ aside-offered i f r value event s h =
     s.items i h
 
 keeps-aside : (i : Item) → Keeps (IsAside i)
-keeps-aside i = record {
+keeps-aside i = freely (IsAside i) (record {
   accepts = λ event id s new h. aside-accepted i event id s h;
   starts = λ f event parent s there given h. h;
   fills = λ f r value event s may full h. aside-offered i f r value event s h;
@@ -408,7 +408,7 @@ keeps-aside i = record {
   waits_go = λ test s h. h;
   invocations_go = λ test s h. h;
   rules_go = λ test s h. h;
-}
+})
 
 pub aside-operations : (i : Item) (no_retry : Bool) (os : List Op) (t : Taking) → IsAside i t.state
     → IsAside i (take_operations i no_retry os t).state

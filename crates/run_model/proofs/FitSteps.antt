@@ -31,7 +31,7 @@ use Rattle.run_model.proofs.FitEvents.{fit-accepted, found-left}
 use Rattle.run_model.proofs.FitFunctions.{fit-registered}
 use Rattle.run_model.proofs.FitRuns.{fit-add_invocation, fit-add_rule, fit-add_sleep, fit-add_wait, fit-called, fit-end_run, fit-finds_out, fit-invocations, fit-pend, fit-plan_named, fit-queue, fit-record_result, fit-rules, fit-sleeps, fit-waits, fit-want}
 use Rattle.run_model.proofs.FitWindows.{fit-filled, fit-fired, fit-joined, fit-started, fit-windows_left}
-use Rattle.run_model.proofs.Kept.{Keeps, keeps-both, window_after, with_offer}
+use Rattle.run_model.proofs.Kept.{Keeps, freely, keeps-both, window_after, with_offer}
 use Rattle.run_model.proofs.KeptReplies.{KeepsCalls}
 use Rattle.run_model.proofs.KeptSteps.{KeepsSteps, all_fired, is-due, kept-step}
 use Rattle.run_model.proofs.Members.{all-map, in-all, in-back, in-either, in-filter, in-found, in-front}
@@ -143,7 +143,7 @@ fit-issue number i s found h =
 -- ## The changes
 
 pub keeps-fit : Keeps IsFit
-keeps-fit = record {
+keeps-fit = freely IsFit (record {
   accepts = λ event id s new h. fit-accepted event id s h;
   starts = λ f event parent s there given h. fit-started f (event ∷ []) parent s there (given, tt) h;
   fills = λ f r value event s may full h. fit-filled f r value event s may full h;
@@ -164,7 +164,7 @@ keeps-fit = record {
   waits_go = λ test s h. fit-waits test s h;
   invocations_go = λ test s h. fit-invocations test s h;
   rules_go = λ test s h. fit-rules test s h;
-}
+})
 
 -- ## Items that are aside
 
@@ -192,7 +192,7 @@ called-offered is f r value event s h =
     called-choice (takes_number r (window_of f.version value s) (window_after f r value event s)) s.entries is h
 
 keeps-called : (is : List Item) → Keeps (AreCalledFit is)
-keeps-called is = record {
+keeps-called is = freely (AreCalledFit is) (record {
   accepts = λ event id s new h. called-accepted is event id s h;
   starts = λ f event parent s there given h. h;
   fills = λ f r value event s may full h. called-offered is f r value event s h;
@@ -213,7 +213,7 @@ keeps-called is = record {
   waits_go = λ test s h. h;
   invocations_go = λ test s h. h;
   rules_go = λ test s h. h;
-}
+})
 
 abbrev pub FitBeside : List Item → State → Type 0
 FitBeside is s = IsFit s × AreCalledFit is s

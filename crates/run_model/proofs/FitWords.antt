@@ -40,7 +40,8 @@ pub fit-make_run : (f : FunctionEntry) (events : List ℕ) (parent : Option Pare
 fit-make_run f events parent s there given h =
     kept-make_run IsFit keeps-fit f events parent s (fit-started f events parent s there given h)
 
-pub fit-end_wait : (result : List ℕ) (w : Waiting) (s : State) → IsFit s → IsFit (end_wait result w s)
+pub fit-end_wait : (result : List ℕ) (w : Waiting) (s : State) → IsIn w s.waits → IsFit s
+    → IsFit (end_wait result w s)
 fit-end_wait = kept-end_wait IsFit keeps-fit
 
 pub fit-wake_by : (d : Discovery) (event : Event) (s : State) → IsFit s → IsFit (wake_by d event s)

@@ -1,8 +1,8 @@
 -- A property of states in the midst of a step, and the ways in which what is kept of runs, events and windows
 -- changes. Each word of the definition keeps it: here those of making and of recording.
-use Rattle.std.proofs.Common.{◌≡◌, ℕ, ◌+◌, ◌≤◌, ◌==◌, Bool, true, false, not, ◌&&◌, cond, List, [], ◌∷◌, ◌++◌, filter, Option, Some, None, IfSome, refl, subst, eqb-true}
+use Rattle.std.proofs.Common.{◌≡◌, ℕ, ◌+◌, ◌≤◌, ◌==◌, Bool, true, false, not, ◌&&◌, cond, List, [], ◌∷◌, ◌++◌, filter, codes, Option, Some, None, IfSome, refl, subst, eqb-true}
 use Rattle.std.specs.List.{AllByRecursion}
-use Rattle.kinds.specs.RunSteps.{Noting, adds, known, full, note_pending, note_plan}
+use Rattle.kinds.specs.RunSteps.{Noting, adds, known, full, is_recorded, note_pending, note_plan}
 use Rattle.kinds.specs.Seen.{find_seen}
 use Rattle.kinds.specs.Windows as windows
 use Rattle.kinds.specs.Windows.{after_event, is_full}
@@ -16,13 +16,13 @@ use Rattle.kinds.specs.declared.store.RunStatus.{RunStatus}
 use Rattle.kinds.specs.declared.window.Window.{Window}
 use Rattle.kinds.specs.declared.window.WindowRule.{WindowRule}
 use Rattle.functions.specs.declared.entry.FunctionEntry.{FunctionEntry}
-use Rattle.run_model.specs.Advance.{without_window}
-use Rattle.run_model.specs.Ends.{end_run, first_text}
-use Rattle.run_model.specs.Events.{add_event, event_with, window_of, window_rule_of, with_window}
+use Rattle.run_model.specs.Advance.{timed_out, without_invocation, without_rule, without_sleep, without_window}
+use Rattle.run_model.specs.Ends.{end_run, first_text, is_invocation_of, without_invocation_of}
+use Rattle.run_model.specs.Events.{add_event, end_wait, event_with, has_wait, window_of, window_rule_of, with_window, without_wait}
 use Rattle.run_model.specs.Laws.{IsIn}
 use Rattle.run_model.specs.Making.{add_rule, add_rules, discover, discover_all, discover_one, first_of, has_discovery, make_run, queue_new, run_with, step_target, text_or_none}
 use Rattle.run_model.specs.Recording.{Discovery, at_once, at_the_end, change_run, discovered, record_result}
-use Rattle.run_model.specs.Replies.{add_invocation, add_sleep, add_wait, pend, plan_named, want}
+use Rattle.run_model.specs.Replies.{add_invocation, add_sleep, add_wait, is_new_result, pend, plan_named, want}
 use Rattle.run_model.specs.Requests.{remember}
 use Rattle.run_model.specs.State.{State, Run, Sleep, Waiting, Invocation, live_run, text_of}
 use Rattle.run_model.proofs.Members.{each-in, in-last}
@@ -91,6 +91,57 @@ pub record Keeps (P : State → Type 0) : Type 0 where
   pub rules : (r : Run) (event : List ℕ) (c : CancelEntry) (s : State) → IsIn r s.live → event ≡ first_text r s
       → P s → P (add_rule r (first_of r.events) event c s)
   pub finds_out : (r : Run) (s : State) → IsIn r s.live → P s → P (queue_new r step_target s)
+  -- a step is recorded: one with a new result, one that an end wakes, and one of a parent that has not ended
+  pub results : (r : Run) (name result : List ℕ) (s : State) → IsLive r s → is_new_result name r.steps ≡ true
+      → P s → P (record_result r.number name result s)
+  pub sleep_ends : (e : Sleep) (s : State) → IsIn e s.sleeps → P s
+      → P (record_result e.run e.hash (codes "null") (without_sleep e.number s))
+  pub wait_ends : (w : Waiting) (result : List ℕ) (s : State) → IsIn w s.waits → P s → P (end_wait result w s)
+  pub invocation_ends : (e : Invocation) (s : State) → IsIn e s.invocations → P s
+      → P (record_result e.run e.hash timed_out (without_invocation e.number s))
+  pub tells : (p : Parent) (r : Run) (result : List ℕ) (s : State) → live_run p.run s ≡ Some r
+      → is_recorded p.hash r.steps ≡ false → P s
+      → P (record_result p.run p.hash result (without_invocation_of p s))
+  -- a run is wanted, and a new name is planned or pending
+  pub wants : (r : Run) (s : State) → IsLive r s → P s → P (change_run r.number want s)
+  pub plans : (r : Run) (name : List ℕ) (s : State) → IsLive r s → Adds (note_plan name r.steps)
+      → P s → P (plan_named r name s)
+  pub sleeps : (r : Run) (name : List ℕ) (t : Time) (s : State) → IsLive r s
+      → Adds (note_pending name pending.Sleep r.steps) → P s → P (add_sleep r name t s)
+  pub waits : (r : Run) (name event : List ℕ) (t : Time) (cond : Option (List ℕ)) (s : State) → IsLive r s
+      → Adds (note_pending name pending.Wait r.steps) → P s → P (add_wait r name event t cond s)
+  pub pends : (r : Run) (name : List ℕ) (s : State) → IsLive r s
+      → Adds (note_pending name pending.Invocation r.steps) → P s → P (pend pending.Invocation name r s)
+  pub invokes : (r : Run) (name : List ℕ) (child : ℕ) (t : Option Time) (s : State)
+      → P s → P (add_invocation r name child t s)
+  -- a run ends
+  pub ends : (r : Run) (status : RunStatus) (s : State) → IsLive r s → P s → P (end_run r status s)
+  -- a rule is over
+  pub rule_ends : (e : Rule) (s : State) → IsIn e s.rules → P s → P (without_rule e.number s)
+
+-- what is kept wherever a step is recorded, and whatever goes of what waits
+pub record KeepsFreely (P : State → Type 0) : Type 0 where
+  -- an event takes its number, and its id is remembered where it is new
+  pub accepts : (event : EventIn) (id : Option (List ℕ)) (s : State)
+      → IfSome id (λ id. find_seen id s.moment s.seen ≡ None)
+      → P s → P (add_event (event_with event s) (remember id s))
+  -- a run is made of an event, of a window that is full, and of one that is over
+  pub starts : (f : FunctionEntry) (event : ℕ) (parent : Option Parent) (s : State)
+      → IsFunction f s → event ≤ s.events → P s → P (started f (event ∷ []) parent s)
+  pub fills : (f : FunctionEntry) (r : WindowRule) (value : List ℕ) (event : ℕ) (s : State)
+      → MayJoin f r event s → is_full r (window_after f r value event s) ≡ true → P s
+      → P (started f (windows.events_of (window_after f r value event s)) None (with_offer f r value event s))
+  pub fires : (f : FunctionEntry) (w : Window) (s : State) → IsFunction f s → IsIn w s.windows → P s
+      → P (started f (windows.events_of w) None (without_window (windows.number_of w) s))
+  -- a window takes an event and stays, or goes
+  pub joins : (f : FunctionEntry) (r : WindowRule) (value : List ℕ) (event : ℕ) (s : State)
+      → MayJoin f r event s → is_full r (window_after f r value event s) ≡ false → P s
+      → P (with_offer f r value event s)
+  pub windows_go : (number : ℕ) (s : State) → P s → P (without_window number s)
+  -- a run has a rule more, or an item that finds out what comes next
+  pub rules : (r : Run) (event : List ℕ) (c : CancelEntry) (s : State) → IsIn r s.live → event ≡ first_text r s
+      → P s → P (add_rule r (first_of r.events) event c s)
+  pub finds_out : (r : Run) (s : State) → IsIn r s.live → P s → P (queue_new r step_target s)
   -- a step is recorded, a run is wanted, and a new name is planned or pending
   pub records : (run : ℕ) (name result : List ℕ) (s : State) → P s → P (record_result run name result s)
   pub wants : (r : Run) (s : State) → IsLive r s → P s → P (change_run r.number want s)
@@ -112,6 +163,35 @@ pub record Keeps (P : State → Type 0) : Type 0 where
   pub invocations_go : (test : Invocation → Bool) (s : State)
       → P s → P (record s { invocations = filter test s.invocations })
   pub rules_go : (test : Rule → Bool) (s : State) → P s → P (record s { rules = filter test s.rules })
+
+pub freely : (P : State → Type 0) → KeepsFreely P → Keeps P
+freely P keeps = record {
+  accepts = keeps.accepts;
+  starts = keeps.starts;
+  fills = keeps.fills;
+  fires = keeps.fires;
+  joins = keeps.joins;
+  windows_go = keeps.windows_go;
+  rules = keeps.rules;
+  finds_out = keeps.finds_out;
+  wants = keeps.wants;
+  plans = keeps.plans;
+  sleeps = keeps.sleeps;
+  waits = keeps.waits;
+  pends = keeps.pends;
+  invokes = keeps.invokes;
+  ends = keeps.ends;
+  results = λ r name result s live new h. keeps.records r.number name result s h;
+  sleep_ends = λ e s there h. keeps.records e.run e.hash (codes "null") (without_sleep e.number s)
+      (keeps.sleeps_go (λ (other : Sleep). not (e.number == other.number)) s h);
+  wait_ends = λ w result s there h. keeps.records w.wait.run w.hash result (without_wait w.wait.number s)
+      (keeps.waits_go (λ v. not (has_wait w.wait.number v)) s h);
+  invocation_ends = λ e s there h. keeps.records e.run e.hash timed_out (without_invocation e.number s)
+      (keeps.invocations_go (λ (other : Invocation). not (e.number == other.number)) s h);
+  tells = λ p r result s live new h. keeps.records p.run p.hash result (without_invocation_of p s)
+      (keeps.invocations_go (λ i. not (is_invocation_of p i)) s h);
+  rule_ends = λ e s there h. keeps.rules_go (λ (other : Rule). not (e.number == other.number)) s h;
+}
 
 -- ## Runs that have not ended
 
@@ -181,7 +261,13 @@ keeps-both P Q p q = record {
   windows_go = λ number s h. (p.windows_go number s h.0, q.windows_go number s h.1);
   rules = λ r event c s there e h. (p.rules r event c s there e h.0, q.rules r event c s there e h.1);
   finds_out = λ r s there h. (p.finds_out r s there h.0, q.finds_out r s there h.1);
-  records = λ run name result s h. (p.records run name result s h.0, q.records run name result s h.1);
+  results = λ r name result s live new h.
+      (p.results r name result s live new h.0, q.results r name result s live new h.1);
+  sleep_ends = λ e s there h. (p.sleep_ends e s there h.0, q.sleep_ends e s there h.1);
+  wait_ends = λ w result s there h. (p.wait_ends w result s there h.0, q.wait_ends w result s there h.1);
+  invocation_ends = λ e s there h. (p.invocation_ends e s there h.0, q.invocation_ends e s there h.1);
+  tells = λ o r result s live new h.
+      (p.tells o r result s live new h.0, q.tells o r result s live new h.1);
   wants = λ r s live h. (p.wants r s live h.0, q.wants r s live h.1);
   plans = λ r name s live new h. (p.plans r name s live new h.0, q.plans r name s live new h.1);
   sleeps = λ r name t s live new h. (p.sleeps r name t s live new h.0, q.sleeps r name t s live new h.1);
@@ -190,8 +276,5 @@ keeps-both P Q p q = record {
   pends = λ r name s live new h. (p.pends r name s live new h.0, q.pends r name s live new h.1);
   invokes = λ r name child t s h. (p.invokes r name child t s h.0, q.invokes r name child t s h.1);
   ends = λ r status s live h. (p.ends r status s live h.0, q.ends r status s live h.1);
-  sleeps_go = λ test s h. (p.sleeps_go test s h.0, q.sleeps_go test s h.1);
-  waits_go = λ test s h. (p.waits_go test s h.0, q.waits_go test s h.1);
-  invocations_go = λ test s h. (p.invocations_go test s h.0, q.invocations_go test s h.1);
-  rules_go = λ test s h. (p.rules_go test s h.0, q.rules_go test s h.1);
+  rule_ends = λ e s there h. (p.rule_ends e s there h.0, q.rule_ends e s there h.1);
 }

@@ -16,31 +16,33 @@ use Rattle.functions.specs.declared.entry.FunctionEntry.{FunctionEntry}
 use Rattle.run_model.specs.Ends.{cancel_run, cancelled_result, complete_run, end_run, fail_run, failed_event, first_text, is_invocation_of, is_of_failure, raise, raise_failed, record_at_parent, tell, tell_parent, without_invocation_of}
 use Rattle.run_model.specs.Events.{add_event, end_wait, event_with, follow, has_wait, in_window, is_triggered, key_of, offer, offer_to, offer_to_all, wait_of, wake, wake_all, wake_by, wake_found, window_of, window_rule_of, without_wait}
 use Rattle.run_model.specs.Expressions.{key_value, truth_in}
+use Rattle.run_model.specs.Laws.{IsIn}
 use Rattle.run_model.specs.Making.{make_run}
 use Rattle.run_model.specs.Recording.{Discovery, at_once, at_the_end, data_result, error_result, record_result}
 use Rattle.run_model.specs.Requests.{Answering, accept, answer_event, cancel_all, cancel_by, cancel_found, on_event, on_events, remember, repeats}
 use Rattle.run_model.specs.State.{State, Run, Waiting, live_run}
-use Rattle.run_model.proofs.Kept.{IsFunction, IsLive, Keeps, MayJoin, kept-discovered, kept-make_run, own-number, window_after, with_offer}
-use Rattle.run_model.proofs.Members.{all-front}
+use Rattle.run_model.proofs.Kept.{IsFunction, IsLive, Keeps, MayJoin, freely, kept-discovered, kept-make_run, own-number, window_after, with_offer}
+use Rattle.run_model.proofs.Members.{all-front, in-found}
 
 module _ (P : State → Type 0) (keeps : Keeps P) where
   -- ## Waits
 
-  pub kept-end_wait : (result : List ℕ) (w : Waiting) (s : State) → P s → P (end_wait result w s)
-  kept-end_wait result w s h = keeps.records w.wait.run w.hash result (without_wait w.wait.number s)
-      (keeps.waits_go (λ v. not (has_wait w.wait.number v)) s h)
+  pub kept-end_wait : (result : List ℕ) (w : Waiting) (s : State) → IsIn w s.waits → P s
+      → P (end_wait result w s)
+  kept-end_wait result w s there h = keeps.wait_ends w result s there h
 
-  pub kept-wake_found : (d : Discovery) (result : List ℕ) (found : Option Waiting) (s : State) → P s
-      → P (wake_found d result found s)
-  kept-wake_found d result None s h = h
-  kept-wake_found d result (Some w) s h =
-      kept-discovered P keeps d (end_wait result w s) (kept-end_wait result w s h)
+  pub kept-wake_found : (d : Discovery) (result : List ℕ) (n : ℕ) (found : Option Waiting) (s : State)
+      → find (has_wait n) s.waits ≡ found → P s → P (wake_found d result found s)
+  kept-wake_found d result n None s e h = h
+  kept-wake_found d result n (Some w) s e h =
+      kept-discovered P keeps d (end_wait result w s)
+      (kept-end_wait result w s (in-found (has_wait n) s.waits w e) h)
 
   pub kept-wake_all : (d : Discovery) (result : List ℕ) (ns : List ℕ) (s : State) → P s
       → P (wake_all d result ns s)
   kept-wake_all d result [] s h = h
   kept-wake_all d result (n ∷ ns) s h = kept-wake_all d result ns (wake d result n s)
-      (kept-wake_found d result (find (has_wait n) s.waits) s h)
+      (kept-wake_found d result n (find (has_wait n) s.waits) s refl h)
 
   pub kept-wake_by : (d : Discovery) (event : Event) (s : State) → P s → P (wake_by d event s)
   kept-wake_by d event s h =
@@ -92,7 +94,7 @@ stands-accepted fs number event None s h = (h.0, omega (arith, h.1))
 stands-accepted fs number event (Some id) s h = (h.0, omega (arith, h.1))
 
 keeps-stands : (fs : List FunctionEntry) (number : ℕ) → Keeps (Stands fs number)
-keeps-stands fs number = record {
+keeps-stands fs number = freely (Stands fs number) (record {
   accepts = λ event id s new h. stands-accepted fs number event id s h;
   starts = λ f event parent s there given h. h;
   fills = λ f r value event s may full h. h;
@@ -113,7 +115,7 @@ keeps-stands fs number = record {
   waits_go = λ test s h. h;
   invocations_go = λ test s h. h;
   rules_go = λ test s h. h;
-}
+})
 
 module _ (P : State → Type 0) (keeps : Keeps P) where
   -- ## Offers
@@ -134,23 +136,23 @@ module _ (P : State → Type 0) (keeps : Keeps P) where
 
   -- ## Ends
 
-  pub kept-record_at_parent : (d : Discovery) (p : Parent) (result : List ℕ) (b : Bool) (s : State) → P s
-      → P (record_at_parent d p result b s)
-  kept-record_at_parent d p result true s h = h
-  kept-record_at_parent d p result false s h =
+  pub kept-record_at_parent : (d : Discovery) (p : Parent) (r : Run) (result : List ℕ) (b : Bool) (s : State)
+      → live_run p.run s ≡ Some r → is_recorded p.hash r.steps ≡ b → P s → P (record_at_parent d p result b s)
+  kept-record_at_parent d p r result true s live e h = h
+  kept-record_at_parent d p r result false s live e h =
       kept-discovered P keeps d (record_result p.run p.hash result (without_invocation_of p s))
-      (keeps.records p.run p.hash result (without_invocation_of p s)
-      (keeps.invocations_go (λ i. not (is_invocation_of p i)) s h))
+      (keeps.tells p r result s live e h)
 
-  pub kept-tell : (d : Discovery) (p : Parent) (result : List ℕ) (found : Option Run) (s : State) → P s
-      → P (tell d p result found s)
-  kept-tell d p result None s h = h
-  kept-tell d p result (Some r) s h = kept-record_at_parent d p result (is_recorded p.hash r.steps) s h
+  pub kept-tell : (d : Discovery) (p : Parent) (result : List ℕ) (found : Option Run) (s : State)
+      → live_run p.run s ≡ found → P s → P (tell d p result found s)
+  kept-tell d p result None s e h = h
+  kept-tell d p result (Some r) s e h =
+      kept-record_at_parent d p r result (is_recorded p.hash r.steps) s e refl h
 
   pub kept-tell_parent : (d : Discovery) (p : Option Parent) (result : List ℕ) (s : State) → P s
       → P (tell_parent d p result s)
   kept-tell_parent d None result s h = h
-  kept-tell_parent d (Some p) result s h = kept-tell d p result (live_run p.run s) s h
+  kept-tell_parent d (Some p) result s h = kept-tell d p result (live_run p.run s) s refl h
 
   pub kept-raise : (event : EventIn) (s : State) → P s → P (raise event s)
   kept-raise event s h = kept-follow at_the_end (event_with event s) (add_event (event_with event s) s)

@@ -10,7 +10,7 @@ use Rattle.run_model.specs.Laws.{HasFunctions, IsNoRegistration}
 use Rattle.run_model.specs.Machine.{step}
 use Rattle.run_model.specs.Requests.{remember}
 use Rattle.run_model.specs.State.{State, moment_at, tidied}
-use Rattle.run_model.proofs.Kept.{Keeps}
+use Rattle.run_model.proofs.Kept.{Keeps, freely}
 use Rattle.run_model.proofs.KeptReplies.{KeepsCalls}
 use Rattle.run_model.proofs.KeptSteps.{KeepsSteps, kept-advance, kept-step}
 
@@ -21,7 +21,7 @@ module _ (versions : ℕ) (fs : List FunctionEntry) where
   functions-accepted event (Some id) s h = h
 
   keeps-functions : Keeps (HasFunctions versions fs)
-  keeps-functions = record {
+  keeps-functions = freely (HasFunctions versions fs) (record {
     accepts = λ event id s new h. functions-accepted event id s h;
     starts = λ f event parent s there given h. h;
     fills = λ f r value event s may full h. h;
@@ -42,7 +42,7 @@ module _ (versions : ℕ) (fs : List FunctionEntry) where
     waits_go = λ test s h. h;
     invocations_go = λ test s h. h;
     rules_go = λ test s h. h;
-  }
+  })
 
   functions-calls : KeepsCalls (λ is s. HasFunctions versions fs s)
   functions-calls = record {

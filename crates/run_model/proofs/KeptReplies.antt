@@ -1,8 +1,8 @@
 -- What a reply to a call and a call that fails do keeps what each change keeps. The call's item is aside in the
 -- meantime.
-use Rattle.std.proofs.Common.{◌≡◌, ℕ, ◌+◌, ◌==◌, Bool, true, false, List, [], ◌∷◌, map, codes, Option, Some, None, refl, nat_lt, bytes_eq, arith}
+use Rattle.std.proofs.Common.{◌≡◌, ℕ, ◌+◌, ◌==◌, Bool, true, false, not, cond, ◌||◌, List, [], ◌∷◌, map, codes, Option, Some, None, refl, nat_lt, bytes_eq, arith}
 use Rattle.kinds.specs.ErrorObject.{error_object}
-use Rattle.kinds.specs.RunSteps.{Noting, adds, known, full, is_recorded, keep_step, note_pending, note_plan}
+use Rattle.kinds.specs.RunSteps.{Noting, adds, known, full, is_pending, is_planned, is_recorded, keep_step, note_pending, note_plan, pend_step, record_step, with_room}
 use Rattle.kinds.specs.declared.event.Event.{Event}
 use Rattle.kinds.specs.declared.reply.After.{After}
 use Rattle.kinds.specs.declared.reply.After.TheVariants as after
@@ -13,6 +13,7 @@ use Rattle.kinds.specs.declared.reply.Outcome.TheVariants as outcome
 use Rattle.kinds.specs.declared.reply.ReplyIn.{ReplyIn}
 use Rattle.kinds.specs.declared.reply.Time.{Time}
 use Rattle.kinds.specs.declared.store.Item.{Item}
+use Rattle.kinds.specs.declared.store.Pending.{Pending}
 use Rattle.kinds.specs.declared.store.Pending.TheVariants as pending
 use Rattle.functions.specs.declared.entry.FunctionEntry.{FunctionEntry}
 use Rattle.sdk_reply.specs.Outcome.{outcome_of}
@@ -22,7 +23,7 @@ use Rattle.run_model.specs.Fit.{item_of}
 use Rattle.run_model.specs.Laws.{IsIn}
 use Rattle.run_model.specs.Making.{make_run, queue}
 use Rattle.run_model.specs.Recording.{change_run, data_result, error_result, record_result}
-use Rattle.run_model.specs.Replies.{Taking, add_sleep, add_wait, after_found, again, begun, close, current, fail_call, fail_found, finished, invoke, invoke_found, invoked_event, is_final, is_idle, keep, lacks_target, moved_nothing, noted, on_call_failed, on_error, on_reply, pend, plan_named, reply_found, retries_of, retry, retry_found, retry_run, take_found, take_named, take_operation, take_operations, take_ops, take_outcome, take_reply, unknown_function, want}
+use Rattle.run_model.specs.Replies.{Taking, add_sleep, add_wait, after_found, again, begun, close, current, fail_call, fail_found, finished, invoke, invoke_found, invoked_event, is_final, is_idle, is_new_result, keep, lacks_target, moved_nothing, noted, on_call_failed, on_error, on_reply, pend, plan_named, reply_found, retries_of, retry, retry_found, retry_run, take_found, take_named, take_operation, take_operations, take_ops, take_outcome, take_reply, unknown_function, want}
 use Rattle.run_model.specs.State.{State, Run, Issue, live_run, open_issue}
 use Rattle.run_model.proofs.Kept.{Adds, IsLive, Keeps, kept-discover, kept-make_run, own-number}
 use Rattle.run_model.proofs.KeptEvents.{kept-complete_run, kept-fail_run}
@@ -51,6 +52,31 @@ has_call call i = call == i.call
 abbrev is_current : List ℕ → FunctionEntry → Bool
 is_current id f = bytes_eq id f.function.id
 
+-- ## Names that are new
+
+adds-result : (name result : List ℕ) (r : Run) → Adds (keep_step name result r.steps)
+    → is_new_result name r.steps ≡ true
+adds-result name result r h = by_test (is_recorded name r.steps || is_pending name r.steps) h
+  where
+    by_test : (b : Bool) → Adds (cond b known (cond (is_planned name r.steps)
+        (adds (record_step name result r.steps)) (with_room (record_step name result r.steps) r.steps)))
+        → not b ≡ true
+    by_test true k = absurd k
+    by_test false k = refl
+
+adds-pending : (name : List ℕ) (kind : Pending) (r : Run) → Adds (note_pending name kind r.steps)
+    → is_new_result name r.steps ≡ true
+adds-pending name kind r h =
+    by_tests (is_recorded name r.steps) (is_planned name r.steps) (is_pending name r.steps) h
+  where
+    by_tests : (a b c : Bool)
+        → Adds (cond (a || b || c) known (with_room (pend_step name kind r.steps) r.steps))
+        → not (a || c) ≡ true
+    by_tests true b c k = absurd k
+    by_tests false true c k = absurd k
+    by_tests false false true k = absurd k
+    by_tests false false false k = refl
+
 -- ## Operations
 
 module _ (P : State → Type 0) (keeps : Keeps P) where
@@ -65,7 +91,7 @@ module _ (P : State → Type 0) (keeps : Keeps P) where
       → P (keep r name result t).state
   kept-keep r name result t live h =
       kept-noted (keep_step name result r.steps) r (record_result r.number name result) t live
-      (λ new. keeps.records r.number name result t.state h) h
+      (λ new. keeps.results r name result t.state live (adds-result name result r new) h) h
 
   pub kept-on_error : (b : Bool) (r : Run) (name error : List ℕ) (t : Taking) → IsLive r t.state → P t.state
       → P (on_error b r name error t).state
@@ -76,7 +102,7 @@ module _ (P : State → Type 0) (keeps : Keeps P) where
       (payload : Option (List ℕ)) (t : Option Time) (s : State) → current id s ≡ found → IsLive r s
       → Adds (note_pending name pending.Invocation r.steps) → P s → P (invoke_found found r name payload t s)
   kept-invoke_found None id r name payload t s e live new h =
-      keeps.records r.number name unknown_function s h
+      keeps.results r name unknown_function s live (adds-pending name pending.Invocation r new) h
   kept-invoke_found (Some f) id r name payload t s e live new h =
       let pended : State = pend pending.Invocation name r s in
       let event : Event = event_with (invoked_event payload) s in

@@ -19,7 +19,7 @@ use Rattle.run_model.specs.Replies.{want, with_plan, with_steps}
 use Rattle.run_model.specs.Requests.{remember}
 use Rattle.run_model.specs.Settle.{called}
 use Rattle.run_model.specs.State.{State, Run, moment_at, tidied}
-use Rattle.run_model.proofs.Kept.{Keeps, run_from, window_after, with_offer}
+use Rattle.run_model.proofs.Kept.{Keeps, freely, run_from, window_after, with_offer}
 use Rattle.run_model.proofs.KeptReplies.{KeepsCalls}
 use Rattle.run_model.proofs.KeptSteps.{KeepsSteps, kept-step}
 
@@ -71,7 +71,7 @@ module _ (K : ℕ → List Run → Type 0) (stays : Stays K) where
   holds-accepted event (Some id) s h = h
 
   keeps-runs : Keeps (Holds K)
-  keeps-runs = record {
+  keeps-runs = freely (Holds K) (record {
     accepts = λ event id s new h. holds-accepted event id s h;
     starts = λ f event parent s there given h.
         stays.adds s.runs (run_from f (event ∷ []) parent s) s.live refl h;
@@ -103,7 +103,7 @@ module _ (K : ℕ → List Run → Type 0) (stays : Stays K) where
     waits_go = λ test s h. h;
     invocations_go = λ test s h. h;
     rules_go = λ test s h. h;
-  }
+  })
 
   holds-tidied : (s : State) → Holds K s → Holds K (tidied s)
   unfolding tidied

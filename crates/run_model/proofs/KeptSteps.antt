@@ -140,20 +140,17 @@ module _ (bound : ℕ) (A : Input → Type 0) (P : List Item → State → Type 
   kept-fire (sleep_end e) s there h =
       kept-discover (P []) (keeps.calls.runs [])
       (record_result e.run e.hash (codes "null") (without_sleep e.number s))
-      ((keeps.calls.runs []).records e.run e.hash (codes "null") (without_sleep e.number s)
-      ((keeps.calls.runs []).sleeps_go (λ (other : Sleep). not (e.number == other.number)) s h))
+      ((keeps.calls.runs []).sleep_ends e s there h)
   kept-fire (wait_end e) s there h =
       kept-discover (P []) (keeps.calls.runs []) (end_wait (codes "{\"data\":null}") e s)
-      (kept-end_wait (P []) (keeps.calls.runs []) (codes "{\"data\":null}") e s h)
+      ((keeps.calls.runs []).wait_ends e (codes "{\"data\":null}") s there h)
   kept-fire (invocation_end e) s there h =
       kept-discover (P []) (keeps.calls.runs [])
       (record_result e.run e.hash timed_out (without_invocation e.number s))
-      ((keeps.calls.runs []).records e.run e.hash timed_out (without_invocation e.number s)
-      ((keeps.calls.runs []).invocations_go (λ (other : Invocation). not (e.number == other.number)) s h))
+      ((keeps.calls.runs []).invocation_ends e s there h)
   kept-fire (window_end w) s there h =
       kept-make_found (function_at (windows.version_of w) s) w s refl there h
-  kept-fire (rule_end e) s there h =
-      (keeps.calls.runs []).rules_go (λ (other : Rule). not (e.number == other.number)) s h
+  kept-fire (rule_end e) s there h = (keeps.calls.runs []).rule_ends e s there h
   kept-fire (call_limit i) s there h =
       kept-fail_call P keeps.calls i (error_object (codes "call limit")) s there h
 

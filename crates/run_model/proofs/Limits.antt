@@ -23,7 +23,7 @@ use Rattle.run_model.specs.Sound.{KeepLimits, KeepsLimits}
 use Rattle.run_model.specs.State.{State, Issue, empty, in_cells, issue_entries, moment_at, tidied}
 use Rattle.run_model.proofs.Apart.{Beside, apart-calls, apart-issue, apart-tidied, keeps-apart}
 use Rattle.run_model.proofs.FitWindows.{and-first, not-true}
-use Rattle.run_model.proofs.Kept.{Keeps, keeps-both}
+use Rattle.run_model.proofs.Kept.{Keeps, freely, keeps-both}
 use Rattle.run_model.proofs.KeptReplies.{KeepsCalls}
 use Rattle.run_model.proofs.KeptSteps.{KeepsSteps, kept-step}
 use Rattle.run_model.proofs.Members.{in-all, in-found}
@@ -215,7 +215,7 @@ limited-accepted event None s h = h
 limited-accepted event (Some id) s h = h
 
 keeps-limited : Keeps Limited
-keeps-limited = record {
+keeps-limited = freely Limited (record {
   accepts = λ event id s new h. limited-accepted event id s h;
   starts = λ f event parent s there given h. h;
   fills = λ f r value event s may full h. h;
@@ -236,7 +236,7 @@ keeps-limited = record {
   waits_go = λ test s h. h;
   invocations_go = λ test s h. h;
   rules_go = λ test s h. h;
-}
+})
 
 abbrev LimitedBeside : List Item → State → Type 0
 LimitedBeside is s = Beside is s × Limited s

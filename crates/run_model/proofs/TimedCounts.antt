@@ -26,7 +26,7 @@ use Rattle.run_model.specs.Replies.{add_invocation, add_sleep, add_wait, close, 
 use Rattle.run_model.specs.Requests.{remember}
 use Rattle.run_model.specs.State.{State, Run, Issue, Invocation, Sleep, Waiting, function_at}
 use Rattle.run_model.proofs.FitWindows.{joined-value, joined-version, with_after}
-use Rattle.run_model.proofs.Kept.{Keeps, kept-discover, kept-make_run, window_after, with_offer}
+use Rattle.run_model.proofs.Kept.{Keeps, kept-discover, kept-make_run, window_after, with_offer, freely}
 use Rattle.run_model.proofs.KeptReplies.{KeepsCalls, kept-retry}
 use Rattle.run_model.proofs.KeptSteps.{IsThere, all_fired, is-due}
 use Rattle.run_model.proofs.Members.{any-in}
@@ -152,7 +152,7 @@ few-next : (n entries : ℕ) → n ≤ entries → n ≤ entries + 1
 few-next n entries h = omega (arith, h)
 
 pub keeps-few : (c : ℕ) → Keeps (AreFew c)
-keeps-few c = record {
+keeps-few c = freely (AreFew c) (record {
   accepts = λ event id s new h. few-accepted c event id s h;
   starts = λ f event parent s there given h. h;
   fills = λ f r value event s may full h. few-offered c f r value event s h;
@@ -174,7 +174,7 @@ keeps-few c = record {
   waits_go = λ test s h. let less = length-left test s.waits in omega (arith, h, less);
   invocations_go = λ test s h. let less = length-left test s.invocations in omega (arith, h, less);
   rules_go = λ test s h. let less = length-left test s.rules in omega (arith, h, less);
-}
+})
 
 few-issues : (c : ℕ) (test : Issue → Bool) (s : State) → AreFew c s
     → AreFew c (record s { issues = filter test s.issues })

@@ -38,10 +38,10 @@ use Rattle.run_model.specs.Requests.{remember}
 use Rattle.run_model.specs.Settle.{called, issue, issued}
 use Rattle.run_model.specs.Sound.{AreTimely, Suits, all_runs}
 use Rattle.run_model.specs.State.{State, Run, Issue, Invocation, Sleep, Waiting, at_moment, empty, has_open_call, tidied}
-use Rattle.run_model.proofs.FitRuns.{all-changed, all-inserted}
+use Rattle.run_model.proofs.FitRuns.{all-changed, all-inserted, fit-invocations, fit-record_result, fit-rules, fit-sleeps, fit-waits}
 use Rattle.run_model.proofs.FitSteps.{FitBeside, fit-empty, keeps-calls, keeps-fit, keeps-steps, moment-within}
 use Rattle.run_model.proofs.FitWindows.{IsBefore, all-inserted_in, is-before, replaced, with_after}
-use Rattle.run_model.proofs.Kept.{Keeps, IsLive, MayJoin, keeps-both, run_from, started, window_after, with_offer}
+use Rattle.run_model.proofs.Kept.{Keeps, IsLive, MayJoin, keeps-both, run_from, started, window_after, with_offer, freely}
 use Rattle.run_model.proofs.KeptReplies.{KeepsCalls}
 use Rattle.run_model.proofs.KeptSteps.{KeepsSteps, all_fired, is-due, kept-fire_by, kept-step}
 use Rattle.run_model.proofs.Members.{in-all, in-found}
@@ -306,7 +306,7 @@ abbrev FitAndLate : State → Type 0
 FitAndLate s = IsFit s × LateOrHigh s
 
 keeps-late : Keeps FitAndLate
-keeps-late = record {
+keeps-late = freely FitAndLate (record {
   accepts = λ event id s new h. (keeps-fit.accepts event id s new h.0, or-accepted event id s h.1);
   starts = λ f event parent s there given h. (
     keeps-fit.starts f event parent s there given h.0,
@@ -330,7 +330,7 @@ keeps-late = record {
       (keeps-fit.rules r event c s there e h.0, either (late-rule r event c s) (higher s.entries) h.1);
   finds_out = λ r s there h. (keeps-fit.finds_out r s there h.0, either (λ k. k) (higher s.entries) h.1);
   records = λ run name result s h. (
-    keeps-fit.records run name result s h.0,
+    fit-record_result run name result s h.0,
     either (late-changed run (record_in name result) s (λ q. refl)) (λ k. k) h.1,
   );
   wants = λ r s live h.
@@ -353,12 +353,12 @@ keeps-late = record {
   );
   ends = λ r status s live h.
       (keeps-fit.ends r status s live h.0, either (late-ended r status s live) (λ k. k) h.1);
-  sleeps_go = λ test s h. (keeps-fit.sleeps_go test s h.0, either (late-sleeps_left test s) (λ k. k) h.1);
-  waits_go = λ test s h. (keeps-fit.waits_go test s h.0, either (late-waits_left test s) (λ k. k) h.1);
+  sleeps_go = λ test s h. (fit-sleeps test s h.0, either (late-sleeps_left test s) (λ k. k) h.1);
+  waits_go = λ test s h. (fit-waits test s h.0, either (late-waits_left test s) (λ k. k) h.1);
   invocations_go = λ test s h.
-      (keeps-fit.invocations_go test s h.0, either (late-invocations_left test s) (λ k. k) h.1);
-  rules_go = λ test s h. (keeps-fit.rules_go test s h.0, either (late-rules_left test s) (λ k. k) h.1);
-}
+      (fit-invocations test s h.0, either (late-invocations_left test s) (λ k. k) h.1);
+  rules_go = λ test s h. (fit-rules test s h.0, either (late-rules_left test s) (λ k. k) h.1);
+})
 
 -- ## Steps
 
@@ -373,7 +373,7 @@ module _ (t : ℕ) where
   by-tidied s h = h
 
   keeps-by : Keeps (λ s. s.moment ≤ t)
-  keeps-by = record {
+  keeps-by = freely (λ s. s.moment ≤ t) (record {
     accepts = λ event id s new h. by-accepted event id s h;
     starts = λ f event parent s there given h. h;
     fills = λ f r value event s may full h. h;
@@ -394,7 +394,7 @@ module _ (t : ℕ) where
     waits_go = λ test s h. h;
     invocations_go = λ test s h. h;
     rules_go = λ test s h. h;
-  }
+  })
 
   by-steps : KeepsSteps t (λ input. Unit {0}) (λ is s. s.moment ≤ t)
   by-steps = record {

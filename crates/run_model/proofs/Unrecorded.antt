@@ -30,7 +30,7 @@ use Rattle.run_model.specs.State.{State, Run, empty, live_run, moment_at, tidied
 use Rattle.run_model.proofs.FitEvents.{find-last, found-left}
 use Rattle.run_model.proofs.FitRuns.{all-queued}
 use Rattle.run_model.proofs.FitWindows.{not-true}
-use Rattle.run_model.proofs.Kept.{Adds, IsLive, Keeps, run_from, window_after, with_offer}
+use Rattle.run_model.proofs.Kept.{Adds, IsLive, Keeps, freely, run_from, window_after, with_offer}
 use Rattle.run_model.proofs.KeptReplies.{KeepsCalls}
 use Rattle.run_model.proofs.KeptSteps.{KeepsSteps, goes-on, kept-act, kept-advance, kept-step}
 use Rattle.run_model.proofs.Members.{in-all, in-found}
@@ -215,7 +215,7 @@ items-accepted event None s h = h
 items-accepted event (Some id) s h = h
 
 keeps-new : Keeps AreItemsNew
-keeps-new = record {
+keeps-new = freely AreItemsNew (record {
   accepts = λ event id s new h. items-accepted event id s h;
   starts = λ f event parent s there given h.
       items-started (run_from f (event ∷ []) parent s) s.live s.items refl h;
@@ -240,7 +240,7 @@ keeps-new = record {
   waits_go = λ test s h. h;
   invocations_go = λ test s h. h;
   rules_go = λ test s h. h;
-}
+})
 
 new-calls : KeepsCalls (λ is s. AreItemsNew s)
 new-calls = record {
