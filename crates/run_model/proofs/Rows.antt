@@ -17,10 +17,10 @@ use Rattle.kinds.specs.declared.out.Out.TheVariants as out
 use Rattle.kinds.specs.declared.refusal.Refusal.{Refusal}
 use Rattle.kinds.specs.declared.refusal.Refusal.TheVariants.{KeptFull, RunsFull, FunctionsFull, UnknownRun, RunEnded}
 use Rattle.kinds.specs.declared.reply.ReplyIn.{ReplyIn}
+use Rattle.event_keys.specs.Matching.{truth_by}
 use Rattle.run_model.specs.Advance.{advance, fire_by, least, timed}
 use Rattle.run_model.specs.Ends.{fail_run}
 use Rattle.run_model.specs.Events.{follow}
-use Rattle.event_keys.specs.Matching.{truth_by}
 use Rattle.run_model.specs.Expressions.{truth_in}
 use Rattle.run_model.specs.Machine.{act, fold, outs, refusal, step}
 use Rattle.run_model.specs.Making.{discover, make_run}
