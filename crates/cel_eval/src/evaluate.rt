@@ -1,18 +1,21 @@
-ghost use Rattle.std.specs.Prelude.{◌≡◌, ◌+◌, IfOk, MatchResult};
+ghost use Rattle.std.specs.Prelude.{◌≡◌, ◌+◌, IfOk, MatchResult, None};
 ghost use Rattle.std.specs.Option.{option_copied};
 ghost use Rattle.lists.specs.Starved.{OrStarved};
 ghost use Rattle.cel_eval.specs.Cells.{IsInUnits};
-ghost use Rattle.cel_eval.specs.Table.{evaluated, value_of};
+ghost use Rattle.cel_eval.specs.Table.{evaluated, value_of, worth};
 ghost use Rattle.cel_eval.specs.Operands.{datum_of};
-ghost use Rattle.cel_eval.specs.Data.{seen};
+ghost use Rattle.cel_eval.specs.Data.{of_json, over, seen, seen_outcome};
+ghost use Rattle.expr.specs.Trees.{tree_of};
+ghost use Rattle.json_text.specs.Nodes.{IsNodeOf, value_at};
 ghost use Rattle.cel_eval.specs.declared.fault.EvalFault.TheVariants as fault;
 
 use crate::operand::Operand;
+use crate::part::Part;
 use crate::scope::Scope;
 use crate::worth::worth;
 use crate::{EvalFault, Value};
-use expr::Expr;
-use json_text::Tree;
+use expr::{Expr, Term};
+use json_text::{Node, Tree};
 use kinds::Steps;
 use lists::Bytes;
 use std::alloc::Global;
@@ -33,6 +36,25 @@ pub fn eval<L: Ledger>(
 {
     steps.tick();
     value_over(alloc, expr, &Scope::new(event, fresh))
+}
+
+/// The value of a whole expression or a part of one, where `event` stands for the tree and there is no fresh event.
+/// It isn't counted as an evaluation.
+pub fn eval_term(alloc: Global, term: &Term, event: &Tree<'_>) -> Result<Value, EvalFault>
+    ensures value { OrStarved fault.Memory
+        (seen_outcome (worth (tree_of term.now) (over event.now.value None))) result }
+    ensures units { IfOk result IsInUnits }
+{
+    shown(worth(alloc, term, &Scope::new(event, None))?, alloc)
+}
+
+/// The value at a node of an event's text.
+pub fn node_value(alloc: Global, event: &Tree<'_>, node: Node) -> Result<Value, EvalFault>
+    requires { IsNodeOf event.now node }
+    ensures value { OrStarved fault.Memory (seen_outcome (of_json (value_at event.now node))) result }
+    ensures units { IfOk result IsInUnits }
+{
+    shown(Operand::of(Part::at(event, node))?, alloc)
 }
 
 fn value_over(alloc: Global, expr: &Expr, scope: &Scope<'_, '_>) -> Result<Value, EvalFault>

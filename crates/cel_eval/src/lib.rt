@@ -20,7 +20,7 @@ mod value;
 mod worth;
 
 pub use cell::cell_value;
-pub use evaluate::eval;
+pub use evaluate::{eval, eval_term, node_value};
 pub use fault::EvalFault;
 pub use value::Value;
 

@@ -1,6 +1,6 @@
 ghost use Rattle.std.specs.Prelude.{◌≡◌, IfOk, slice_get};
 ghost use Rattle.json_text.specs.Grammar.{spelling};
-ghost use Rattle.json_text.specs.Nodes.{kind_of, len_of, item_of, items_of};
+ghost use Rattle.json_text.specs.Nodes.{kind_of, len_of, item_of, items_of, IsNodeOf, value_at};
 ghost use Rattle.json_text.specs.Same.{comparison, in_range};
 ghost use Rattle.json_text.specs.Text.{member_of, has_text, text_of};
 ghost use Rattle.json_text.specs.declared.kind.Kind.TheVariants as kind;
@@ -44,6 +44,13 @@ impl<'t, 'a> Part<'t, 'a> {
             tree,
             node: tree.root(),
         }
+    }
+
+    pub(crate) fn at(tree: &'t Tree<'a>, node: Node) -> Self
+        requires { IsNodeOf tree.now node }
+        ensures { result ≡ value_at tree.now node }
+    {
+        Part { tree, node }
     }
 
     pub(crate) fn kind(&self) -> Kind

@@ -8,7 +8,7 @@ use Rattle.kinds.specs.declared.store.Bucket.{Bucket}
 use Rattle.kinds.specs.declared.store.Rule.{Rule}
 use Rattle.intake.specs.Events.{event_text}
 use Rattle.lists.proofs.Elements.{all-filter, all-last, all-weaker}
-use Rattle.run_model.specs.Buckets.{bucket_of}
+use Rattle.event_keys.specs.Buckets.{bucket_of}
 use Rattle.run_model.specs.Events.{add_event, event_with}
 use Rattle.run_model.specs.Fit.{AreConditionsFit, IsBucketOf, IsFit, IsRuleFit, IsWaitFit}
 use Rattle.run_model.specs.Requests.{remember}

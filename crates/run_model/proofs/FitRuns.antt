@@ -16,7 +16,7 @@ use Rattle.kinds.specs.declared.store.Rule.{Rule}
 use Rattle.kinds.specs.declared.store.RunStatus.{RunStatus}
 use Rattle.lists.proofs.Elements.{all-filter, all-last}
 use Rattle.lists.specs.Entries.{insert_by}
-use Rattle.run_model.specs.Buckets.{bucket_of}
+use Rattle.event_keys.specs.Buckets.{bucket_of}
 use Rattle.run_model.specs.Ends.{end_run, ended_run, first_text, run_number}
 use Rattle.run_model.specs.Fit.{AreGiven, IsBucketOf, IsFit, IsItemFit, IsRuleFit, IsRunFit, IsWaitFit}
 use Rattle.run_model.specs.Laws.{IsIn}

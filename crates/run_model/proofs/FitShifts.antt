@@ -2,7 +2,7 @@
 use Rattle.std.proofs.Common.{ℕ, zero, suc, ℤ, pos, negsuc, ◌+◌, ◌≤◌, List, min, Option, Some, None, Ok, Err, arith}
 use Rattle.std.specs.Prelude.{neg_ℤ, unsigned_abs}
 use Rattle.cel_eval.specs.declared.value.Value.TheVariants as value
-use Rattle.run_model.specs.Expressions.{Worth, clamped, most_shift, priority_shift, shift_of, whole, worth_over}
+use Rattle.event_keys.specs.Expressions.{Worth, clamped, most_shift, priority_shift, shift_of, whole, worth_over}
 
 -- the lesser of a number and the most
 lesser-within : (n : ℕ) → min n most_shift ≤ most_shift

@@ -17,7 +17,7 @@ use Rattle.kinds.specs.declared.store.Pending.TheVariants as pending
 use Rattle.kinds.specs.declared.window.WindowRule.{WindowRule}
 use Rattle.functions.specs.declared.entry.FunctionEntry.{FunctionEntry}
 use Rattle.lists.proofs.Elements.{all-filter, all-last, all-weaker}
-use Rattle.run_model.specs.Buckets.{bucket_of}
+use Rattle.event_keys.specs.Buckets.{bucket_of}
 use Rattle.run_model.specs.Events.{add_event, event_with, takes_number, window_of}
 use Rattle.run_model.specs.Fit.{AreCallsFit, AreConditionsFit, IsBucketOf, IsCalledFit, IsFit, IsInRange, IsIssueFit, IsItemFit, IsRuleFit, IsRunFit, IsWaitFit, item_of}
 use Rattle.run_model.specs.Laws.{IsIn}

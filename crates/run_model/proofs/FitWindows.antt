@@ -16,11 +16,12 @@ use Rattle.functions.specs.declared.entry.FunctionEntry.{FunctionEntry}
 use Rattle.lists.proofs.Elements.{all-filter, all-last, all-weaker, filter-passes}
 use Rattle.lists.proofs.Texts.{bytes_flip}
 use Rattle.lists.specs.Entries.{key_of, pair_cmp}
+use Rattle.event_keys.specs.Cells.{throttle_cell}
 use Rattle.run_model.specs.Advance.{without_window}
 use Rattle.run_model.specs.Events.{window_of, window_rule_of}
 use Rattle.run_model.specs.Fit.{AreGiven, HasRoom, IsFit, IsFunctionFit, IsRunFit, IsThrottleInRange, IsWindowFit}
 use Rattle.run_model.specs.Laws.{IsIn}
-use Rattle.run_model.specs.Making.{first_of, text_or_none, throttle_cell}
+use Rattle.run_model.specs.Making.{first_of, text_or_none}
 use Rattle.run_model.specs.Sound.{ArePairwise, Suits, is_same_window}
 use Rattle.run_model.specs.State.{State, Run, text_of}
 use Rattle.run_model.proofs.FitCounts.{fit-entries, fit-live, fit-runs, fit-windows}

@@ -13,9 +13,10 @@ use Rattle.kinds.specs.declared.store.Parent.{Parent}
 use Rattle.kinds.specs.declared.store.RunStatus.TheVariants.{Completed, Failed, Cancelled}
 use Rattle.kinds.specs.declared.window.WindowRule.{WindowRule}
 use Rattle.functions.specs.declared.entry.FunctionEntry.{FunctionEntry}
+use Rattle.event_keys.specs.Expressions.{key_value}
 use Rattle.run_model.specs.Ends.{cancel_run, cancelled_result, complete_run, end_run, fail_run, failed_event, first_text, is_invocation_of, is_of_failure, raise, raise_failed, record_at_parent, tell, tell_parent, without_invocation_of}
 use Rattle.run_model.specs.Events.{add_event, end_wait, event_with, follow, has_wait, in_window, is_triggered, key_of, offer, offer_to, offer_to_all, wait_of, wake, wake_all, wake_by, wake_found, window_of, window_rule_of, without_wait}
-use Rattle.run_model.specs.Expressions.{key_value, truth_in}
+use Rattle.run_model.specs.Expressions.{truth_in}
 use Rattle.run_model.specs.Laws.{IsIn}
 use Rattle.run_model.specs.Making.{make_run}
 use Rattle.run_model.specs.Recording.{Discovery, at_once, at_the_end, data_result, error_result, record_result}

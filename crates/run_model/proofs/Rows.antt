@@ -17,6 +17,7 @@ use Rattle.kinds.specs.declared.out.Out.TheVariants as out
 use Rattle.kinds.specs.declared.refusal.Refusal.{Refusal}
 use Rattle.kinds.specs.declared.refusal.Refusal.TheVariants.{KeptFull, RunsFull, FunctionsFull, UnknownRun, RunEnded}
 use Rattle.kinds.specs.declared.reply.ReplyIn.{ReplyIn}
+use Rattle.event_keys.specs.Matching.{truth_by}
 use Rattle.run_model.specs.Advance.{advance, fire_by, least, timed}
 use Rattle.run_model.specs.Ends.{fail_run}
 use Rattle.run_model.specs.Events.{follow}
@@ -56,7 +57,7 @@ unfolding advance fire_by least timed act step discover make_run settle_by tidie
 steps_compute = tt
 
 unfoldable pub inputs_compute : ⊤
-unfolding follow truth_in on_events on_reply on_call_failed take_operations fail_run items.next_item
+unfolding follow truth_in truth_by on_events on_reply on_call_failed take_operations fail_run items.next_item
 inputs_compute = tt
 
 unfoldable pub texts_compute : ⊤

@@ -17,7 +17,8 @@ use Rattle.kinds.specs.declared.window.Window.{Window}
 use Rattle.kinds.specs.declared.window.WindowRule.{WindowRule}
 use Rattle.kinds.specs.declared.window.WindowRule.TheVariants as rule
 use Rattle.functions.specs.declared.entry.FunctionEntry.{FunctionEntry}
-use Rattle.run_model.specs.Expressions.{holds_over, key_value, truth_in}
+use Rattle.event_keys.specs.Expressions.{holds_over, key_value}
+use Rattle.run_model.specs.Expressions.{truth_in}
 use Rattle.run_model.specs.Making.{make_run}
 use Rattle.run_model.specs.Recording.{Discovery, data_result, discovered, record_result}
 use Rattle.run_model.specs.State.{State, Waiting}

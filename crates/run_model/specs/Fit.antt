@@ -19,11 +19,11 @@ use Rattle.kinds.specs.declared.store.Item.{Item}
 use Rattle.kinds.specs.declared.store.Rule.{Rule}
 use Rattle.kinds.specs.declared.window.Window.{Window}
 use Rattle.functions.specs.declared.entry.FunctionEntry.{FunctionEntry}
-use Rattle.run_model.specs.Buckets.{bucket_of}
+use Rattle.event_keys.specs.Buckets.{bucket_of}
+use Rattle.event_keys.specs.Expressions.{most_shift}
+use Rattle.event_keys.specs.Cells.{throttle_cell}
 use Rattle.run_model.specs.Events.{window_rule_of}
-use Rattle.run_model.specs.Expressions.{most_shift}
 use Rattle.run_model.specs.Laws.{IsIn}
-use Rattle.run_model.specs.Making.{throttle_cell}
 use Rattle.run_model.specs.Sound.{ArePairwise, Suits, is_same_window}
 use Rattle.run_model.specs.State.{State, Run, Issue, EventText, Sleep, Waiting, Invocation}
 

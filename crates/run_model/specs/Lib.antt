@@ -1,5 +1,4 @@
 pub mod Advance
-pub mod Buckets
 pub mod Ends
 pub mod Events
 pub mod Expressions

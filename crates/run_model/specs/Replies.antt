@@ -26,7 +26,7 @@ use Rattle.kinds.specs.declared.store.Pending.TheVariants as pending
 use Rattle.functions.specs.declared.entry.FunctionEntry.{FunctionEntry}
 use Rattle.sdk_reply.specs.Delay.{delay}
 use Rattle.sdk_reply.specs.Outcome.{outcome_of}
-use Rattle.run_model.specs.Buckets.{bucket_of}
+use Rattle.event_keys.specs.Buckets.{bucket_of}
 use Rattle.run_model.specs.Ends.{complete_run, fail_run, first_text, own_event}
 use Rattle.run_model.specs.Events.{add_event, event_with}
 use Rattle.run_model.specs.Making.{discover, first_of, make_run, queue, queue_new, step_target}

@@ -28,10 +28,11 @@ use Rattle.kinds.specs.declared.window.WindowRule.TheVariants as rule
 use Rattle.lists.specs.Entries.{pair_cmp}
 use Rattle.functions.specs.Functions.{version_of}
 use Rattle.functions.specs.declared.entry.FunctionEntry.{FunctionEntry}
+use Rattle.event_keys.specs.Buckets.{bucket_of}
+use Rattle.event_keys.specs.Cells.{cells_of, start_of}
 use Rattle.run_model.specs.Advance.{due_of, timed}
-use Rattle.run_model.specs.Buckets.{bucket_of}
 use Rattle.run_model.specs.Ends.{first_text, is_invocation_of}
-use Rattle.run_model.specs.Making.{cells_of, first_of, is_item_of, score_of, start_of, step_target, unless}
+use Rattle.run_model.specs.Making.{first_of, is_item_of, score_of, step_target, unless}
 use Rattle.run_model.specs.Settle.{next_issued}
 use Rattle.run_model.specs.State.{State, Run, Issue, EventText, Sleep, Waiting, Invocation, EndedRun, function_at, has_open_call, is_in, is_named, is_version_named, issue_entries, live_run, text_of}
 

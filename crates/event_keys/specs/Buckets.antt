@@ -1,23 +1,24 @@
--- Where an event must have a value for a condition to be true of it. Of the conjuncts of a condition, from
--- left to right, the first that compares a member of the fresh event with what the first event alone tells
--- gives the bucket.
+-- Where an event must have a value for a condition to be true of it. Of the conjuncts of a condition,
+-- from left to right, the first that compares a member of the fresh event with what the first event
+-- alone tells gives the bucket.
 use Rattle.std.specs.Prelude.{ℕ, Bool, true, false, ◌||◌, List, [], ◌∷◌, ◌++◌, Option, Some, None, Result, Ok, Err}
 use Rattle.expr.specs.Tree as tree
 use Rattle.expr.specs.Tree.{Tree, Trees}
 use Rattle.expr.specs.Reading.{tree_of_text}
+use Rattle.expr.specs.declared.term.Source.{Source}
 use Rattle.expr.specs.declared.term.Source.TheVariants as source
 use Rattle.expr.specs.declared.term.Operator.TheVariants as operator
 use Rattle.cel_eval.specs.Cells.{value_text}
-use Rattle.cel_eval.specs.Data.{over, seen_outcome}
+use Rattle.cel_eval.specs.Data.{over, of_json, seen_outcome}
 use Rattle.cel_eval.specs.Table.{worth}
 use Rattle.cel_eval.specs.declared.fault.EvalFault.{EvalFault}
 use Rattle.cel_eval.specs.declared.fault.EvalFault.TheVariants as fault
 use Rattle.cel_eval.specs.declared.value.Value.{Value}
 use Rattle.cel_eval.specs.declared.value.Value.TheVariants as value
 use Rattle.json_text.specs.Grammar.{Json}
-use Rattle.json_text.specs.Texts.{read_text}
-use Rattle.json_text.specs.declared.fault.JsonFault.{JsonFault}
+use Rattle.json_text.specs.Text.{member_of}
 use Rattle.kinds.specs.declared.store.Bucket.{Bucket}
+use Rattle.event_keys.specs.Expressions.{json_of}
 
 -- ## What a condition compares
 
@@ -26,6 +27,10 @@ abbrev pub conjuncts : Tree → List Tree
 conjuncts (tree.binary operator.And a b) = conjuncts a ++ b ∷ []
 conjuncts t = t ∷ []
 
+abbrev pub is_fresh : Source → Bool
+is_fresh source.Event = false
+is_fresh source.Async = true
+
 abbrev mutual
   -- the fresh event is named
   pub names_fresh : Tree → Bool
@@ -33,8 +38,7 @@ abbrev mutual
   names_fresh (tree.boolean b) = false
   names_fresh (tree.number n) = false
   names_fresh (tree.text t) = false
-  names_fresh (tree.source source.Event) = false
-  names_fresh (tree.source source.Async) = true
+  names_fresh (tree.source s) = is_fresh s
   names_fresh (tree.group a) = names_fresh a
   names_fresh (tree.list items) = name_fresh items
   names_fresh (tree.member a name) = names_fresh a
@@ -77,7 +81,8 @@ or_else (Some c) other = Some c
 
 -- `async.P == E` or `E == async.P`, where E doesn't name the fresh event
 abbrev pub compared : Tree → Option Compared
-compared (tree.binary operator.Equal a b) = or_else (against (fresh_path a) b) (against (fresh_path b) a)
+compared (tree.binary operator.Equal a b) =
+    or_else (against (fresh_path a) b) (against (fresh_path b) a)
 compared t = None
 
 abbrev pub first_compared : List Tree → Option Compared
@@ -93,9 +98,10 @@ key_text (Ok value.Object) = None
 key_text (Ok v) = Some (value_text v)
 key_text (Err e) = None
 
-abbrev pub worth_on : Tree → Result Json JsonFault → Result Value EvalFault
-worth_on t (Ok j) = seen_outcome (worth t (over j None))
-worth_on t (Err e) = Err fault.NoField
+-- over the first event alone
+abbrev pub worth_on : Tree → Option Json → Result Value EvalFault
+worth_on t None = Err fault.NoField
+worth_on t (Some j) = seen_outcome (worth t (over j None))
 
 abbrev pub bucket_at : List (List ℕ) → Option (List ℕ) → Option Bucket
 bucket_at path None = None
@@ -103,7 +109,7 @@ bucket_at path (Some value) = Some (record { path = path; value = value })
 
 abbrev pub bucket_with : List ℕ → Option Compared → Option Bucket
 bucket_with event None = None
-bucket_with event (Some c) = bucket_at c.path (key_text (worth_on c.to (read_text event)))
+bucket_with event (Some c) = bucket_at c.path (key_text (worth_on c.to (json_of event)))
 
 abbrev pub bucket_in : List ℕ → Option Tree → Option Bucket
 bucket_in event None = None
@@ -113,3 +119,22 @@ bucket_in event (Some t) = bucket_with event (first_compared (conjuncts t))
 abbrev pub bucket_of : Option (List ℕ) → List ℕ → Option Bucket
 bucket_of None event = None
 bucket_of (Some expr) event = bucket_in event (tree_of_text expr)
+
+-- ## What an event has at a path
+
+abbrev pub named : List ℕ → Option Json → Option Json
+named name None = None
+named name (Some j) = member_of j name
+
+-- the member at a path from a value
+abbrev pub member_at : Option Json → List (List ℕ) → Option Json
+member_at found [] = found
+member_at found (name ∷ names) = member_at (named name found) names
+
+abbrev pub found_text : Option Json → Option (List ℕ)
+found_text None = None
+found_text (Some j) = key_text (seen_outcome (of_json j))
+
+-- the text of the value there: none of a list, an object or a number out of range
+abbrev pub value_in : List (List ℕ) → List ℕ → Option (List ℕ)
+value_in path event = found_text (member_at (json_of event) path)

@@ -1,0 +1,9 @@
+pub mod Alone
+pub mod BucketLaw
+pub mod ConjunctLemmas
+pub mod EqualTexts
+pub mod LoopLemmas
+pub mod MatchLemmas
+pub mod PathLemmas
+pub mod TextLemmas
+pub mod TrueConjuncts

@@ -1,0 +1,5 @@
+pub mod Buckets
+pub mod Cells
+pub mod Expressions
+pub mod Matching
+pub mod Reading
