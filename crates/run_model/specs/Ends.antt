@@ -12,15 +12,14 @@ use Rattle.functions.specs.declared.entry.FunctionEntry.{FunctionEntry}
 use Rattle.json_text.specs.Text.{quoted}
 use Rattle.lists.specs.Entries.{insert_by}
 use Rattle.step_ids.specs.Run.{run_text}
+pub use Rattle.awaited.specs.Entries.{is_invocation_of}
+pub use Rattle.runs.specs.Runs.{run_number}
 use Rattle.run_model.specs.Events.{add_event, event_with, follow}
 use Rattle.run_model.specs.Making.{first_of, text_or_none}
 use Rattle.run_model.specs.Recording.{Discovery, at_the_end, data_result, discovered, error_result, record_result}
 use Rattle.run_model.specs.State.{State, Run, EndedRun, Invocation, Sleep, Waiting, function_at, live_run, text_of}
 
 -- ## What goes
-
-abbrev pub run_number : Run → ℕ
-run_number r = r.number
 
 abbrev pub id_at : Option FunctionEntry → List ℕ
 id_at None = []
@@ -53,9 +52,6 @@ end_run r status s = record s {
 }
 
 -- ## What its parent records
-
-abbrev pub is_invocation_of : Parent → Invocation → Bool
-is_invocation_of p i = (p.run == i.run) && bytes_eq p.hash i.hash
 
 abbrev pub without_invocation_of : Parent → State → State
 without_invocation_of p s = record s { invocations = filter (λ i. not (is_invocation_of p i)) s.invocations }

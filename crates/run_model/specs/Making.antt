@@ -9,23 +9,15 @@ use Rattle.kinds.specs.declared.store.Item.{Item}
 use Rattle.kinds.specs.declared.store.Parent.{Parent}
 use Rattle.kinds.specs.declared.store.Rule.{Rule}
 use Rattle.functions.specs.declared.entry.FunctionEntry.{FunctionEntry}
+pub use Rattle.admission.specs.Items.{is_item_of}
+pub use Rattle.runs.specs.Changes.{step_target}
+pub use Rattle.runs.specs.Runs.{first_of, score_of}
 use Rattle.event_keys.specs.Buckets.{bucket_of}
 use Rattle.event_keys.specs.Cells.{cells_of, start_of}
 use Rattle.event_keys.specs.Expressions.{priority_shift}
 use Rattle.run_model.specs.State.{State, Run, Issue, EventText, text_of}
 
 -- ## Items
-
--- to find out what comes next
-abbrev pub step_target : List ℕ
-step_target = codes "step"
-
-abbrev pub is_item_of : ℕ → List ℕ → Item → Bool
-is_item_of run target i = (run == i.run) && bytes_eq target i.target
-
--- the lesser comes first
-abbrev pub score_of : Run → ℤ
-score_of r = pos r.moment -ℤ (pos 1000 *ℤ r.shift)
 
 abbrev pub unless : {X : Type 0} → Bool → Option X → Option X
 unless true x = None
@@ -114,10 +106,6 @@ abbrev pub add_run : Run → ℕ → List ℕ → List CancelEntry → State →
 add_run r first event cancels s =
     queue_new r step_target
     (add_rules r first event cancels (record s { runs = s.runs + 1; live = s.live ++ r ∷ [] }))
-
-abbrev pub first_of : List ℕ → ℕ
-first_of [] = 0
-first_of (n ∷ ns) = n
 
 abbrev pub text_or_none : Option EventText → List ℕ
 text_or_none None = []

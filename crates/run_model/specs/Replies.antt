@@ -26,6 +26,7 @@ use Rattle.kinds.specs.declared.store.Pending.TheVariants as pending
 use Rattle.functions.specs.declared.entry.FunctionEntry.{FunctionEntry}
 use Rattle.sdk_reply.specs.Delay.{delay}
 use Rattle.sdk_reply.specs.Outcome.{outcome_of}
+pub use Rattle.runs.specs.Changes.{is_new_result, want, with_plan, with_steps}
 use Rattle.event_keys.specs.Buckets.{bucket_of}
 use Rattle.run_model.specs.Ends.{complete_run, fail_run, first_text, own_event}
 use Rattle.run_model.specs.Events.{add_event, event_with}
@@ -53,9 +54,6 @@ retries_of r s = retries_at (function_at r.version s)
 abbrev pub again : Item → After → State → Item
 again i after s =
     record i { attempt = i.attempt + 1; due = s.moment + delay i.attempt after s.moment; start = None }
-
-abbrev pub want : Run → Run
-want r = record r { wanted = true }
 
 -- The call of a recorded step isn't made again, and it is to be found out what comes next. Others are made
 -- again while attempts are left, and then the run fails.
@@ -108,10 +106,6 @@ abbrev pub keep : Run → List ℕ → List ℕ → Taking → Taking
 keep r name result taking =
     noted (keep_step name result r.steps) r (record_result r.number name result) taking
 
--- a result for the name would be new
-abbrev pub is_new_result : List ℕ → RunSteps → Bool
-is_new_result name steps = not (is_recorded name steps || is_pending name steps)
-
 -- no attempt is left, or the reply says that there is to be none
 abbrev pub is_final : Item → Bool → Run → State → Bool
 is_final i no_retry r s = nat_le (retries_of r s) i.attempt || no_retry
@@ -121,12 +115,6 @@ on_error true r name error taking = keep r name (error_result error) taking
 on_error false r name error taking = record taking { again = taking.again || is_new_result name r.steps }
 
 -- ## Plans, sleeps, waits
-
-abbrev pub with_steps : RunSteps → Run → Run
-with_steps steps r = record r { steps = steps }
-
-abbrev pub with_plan : List ℕ → Run → Run
-with_plan name r = record r { steps = plan_step name r.steps; planned = true }
 
 abbrev pub plan_named : Run → List ℕ → State → State
 plan_named r name s = queue_new r name (change_run r.number (with_plan name) s)

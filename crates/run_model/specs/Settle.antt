@@ -11,6 +11,10 @@ use Rattle.kinds.specs.declared.store.Item.{Item}
 use Rattle.functions.specs.declared.entry.FunctionEntry.{FunctionEntry}
 use Rattle.sdk_call.specs.Body.{call_body, call_path}
 use Rattle.step_ids.specs.Run.{run_text}
+pub use Rattle.admission.specs.Admission.{started_at}
+pub use Rattle.admission.specs.Issues.{longest_call}
+pub use Rattle.runs.specs.Changes.{called}
+use Rattle.admission.specs.Issues as issues
 use Rattle.run_model.specs.Making.{step_target, text_or_none}
 use Rattle.run_model.specs.Recording.{change_run}
 use Rattle.run_model.specs.State.{State, Run, Issue, function_at, issue_entries, live_run, text_of}
@@ -34,29 +38,12 @@ call_found (Some f) r i call s = call_with f.function r i call s ∷ []
 
 -- ## A call is made
 
--- how long a call may be open, in milliseconds
-abbrev pub longest_call : ℕ
-longest_call = 7200000
-
-abbrev pub started_at : Option Cell → ℕ → List StartEntry → List StartEntry
-started_at None moment starts = starts
-started_at (Some cell) moment starts = after_start cell moment starts
-
--- the call that finds out what comes next answers what was recorded so far
-abbrev pub called : Item → Run → Run
-called i r = record r { started = true; wanted = r.wanted && not (bytes_eq i.target step_target) }
-
 -- an item whose call is made, and no start is needed to make it again
 abbrev pub issued : Item → State → Issue
-issued i s = record {
-  call = s.calls + 1;
-  item = record i { start = None };
-  limit = s.entries + 1;
-  due = s.moment + longest_call;
-}
+issued i s = issues.issued i (s.calls + 1) (s.entries + 1) s.moment
 
 abbrev pub issue : Item → State → State
-issue i s = change_run i.run (called i) (record s {
+issue i s = change_run i.run (called i.target) (record s {
   calls = s.calls + 1;
   entries = s.entries + 1;
   items = without_number i.number s.items;

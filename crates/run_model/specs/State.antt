@@ -21,6 +21,15 @@ use Rattle.kinds.specs.declared.store.StepEntry.{StepEntry}
 use Rattle.kinds.specs.declared.store.Wait.{Wait}
 use Rattle.kinds.specs.declared.window.Window.{Window}
 use Rattle.functions.specs.declared.entry.FunctionEntry.{FunctionEntry}
+pub use Rattle.admission.specs.Issues.{has_open_call, in_cells}
+pub use Rattle.admission.specs.declared.issue.Issue.{Issue}
+pub use Rattle.awaited.specs.Entries.{Waiting}
+pub use Rattle.awaited.specs.declared.entries.Invocation.{Invocation}
+pub use Rattle.awaited.specs.declared.entries.Sleep.{Sleep}
+use Rattle.runs.specs.Ended as ended
+pub use Rattle.runs.specs.Ended.{last_or}
+pub use Rattle.runs.specs.Runs.{Run, bytes_of_results, bytes_of_steps, is_in}
+pub use Rattle.runs.specs.declared.ended.EndedRun.{EndedRun}
 
 -- ## What the lists hold
 
@@ -28,63 +37,6 @@ use Rattle.functions.specs.declared.entry.FunctionEntry.{FunctionEntry}
 pub record EventText : Type 0 where
   pub number : ℕ
   pub text : List ℕ
-
-pub record Run : Type 0 where
-  pub number : ℕ
-  -- when it was made
-  pub moment : ℕ
-  -- the function that it is a run of
-  pub version : ℕ
-  -- the numbers of its events, in order, at least one
-  pub events : List ℕ
-  -- its concurrency cells with their limits, each cell once
-  pub cells : List CellLimit
-  -- its throttle's cell
-  pub start : Option Cell
-  -- so many seconds it goes before others of its moment, from -600 to 600
-  pub shift : ℤ
-  -- something was recorded since its last call that finds out what comes next, or there was none yet
-  pub wanted : Bool
-  -- it planned a step
-  pub planned : Bool
-  -- a call of it was made
-  pub started : Bool
-  pub parent : Option Parent
-  pub steps : RunSteps
-
--- an open call, with the item that it was made for
-pub record Issue : Type 0 where
-  pub call : ℕ
-  pub item : Item
-  -- the number and the moment of its limit
-  pub limit : ℕ
-  pub due : ℕ
-
-pub record Sleep : Type 0 where
-  pub number : ℕ
-  pub run : ℕ
-  pub hash : List ℕ
-  pub due : ℕ
-
--- a wait with the name of its step
-pub record Waiting : Type 0 where
-  pub wait : Wait
-  pub hash : List ℕ
-
--- a step that waits for the end of a run
-pub record Invocation : Type 0 where
-  pub number : ℕ
-  pub run : ℕ
-  pub hash : List ℕ
-  pub child : ℕ
-  pub due : Option ℕ
-
-pub record EndedRun : Type 0 where
-  pub run : ℕ
-  pub moment : ℕ
-  pub function : List ℕ
-  pub status : RunStatus
-  pub events : List ℕ
 
 -- ## The state
 
@@ -178,9 +130,6 @@ abbrev pub function_at : ℕ → State → Option FunctionEntry
 function_at version s = find (λ (f : FunctionEntry). version == f.version) (s.functions ++ s.retired)
 
 -- the open calls as cells count them
-abbrev pub in_cells : Issue → IssueEntry
-in_cells i = record { issue = i.call; cells = i.item.cells }
-
 abbrev pub issue_entries : State → List IssueEntry
 issue_entries s = map in_cells s.issues
 
@@ -194,9 +143,6 @@ greatest s = max (max (max s.inputs s.events) (max s.runs s.calls)) (max s.entri
 abbrev pub live : State → ℕ
 live s = length s.live
 
-abbrev pub is_in : ℕ → List ℕ → Bool
-is_in number numbers = list_any (λ n. number == n) numbers
-
 -- a run that has not ended, or a window, names the event
 abbrev pub is_used : State → EventText → Bool
 is_used s e =
@@ -207,15 +153,6 @@ abbrev pub bytes_of_texts : List EventText → ℕ
 bytes_of_texts [] = 0
 bytes_of_texts (e ∷ es) = length e.text + bytes_of_texts es
 
--- the bytes of a run's results
-abbrev pub bytes_of_steps : List StepEntry → ℕ
-bytes_of_steps [] = 0
-bytes_of_steps (e ∷ es) = length e.result + bytes_of_steps es
-
-abbrev pub bytes_of_results : List Run → ℕ
-bytes_of_results [] = 0
-bytes_of_results (r ∷ rs) = bytes_of_steps r.steps.recorded + bytes_of_results rs
-
 -- the bytes that are kept: the events that live runs and windows name, the results of live runs, and
 -- remembered ids
 abbrev pub kept : State → ℕ
@@ -223,16 +160,9 @@ kept s = bytes_of_texts (filter (is_used s) s.texts) + bytes_of_results s.live +
 
 -- the runs that ended last, a thousand at most
 abbrev pub last_ended : State → List EndedRun
-last_ended s = drop (length s.ended - 1000) s.ended
+last_ended s = ended.last_ended s.ended
 
 -- ## What is kept from one input to the next
-
-abbrev pub has_open_call : List Issue → ℕ → Bool
-has_open_call issues run = list_any (λ (i : Issue). run == i.item.run) issues
-
--- Of a list's entries those that pass, and the last so many whether they pass or not.
-abbrev pub last_or : {X : Type 0} → (X → Bool) → ℕ → List X → List X
-last_or passes most xs = filter passes (take (length xs - most) xs) ++ drop (length xs - most) xs
 
 -- a run that is there, or a window, names the event
 abbrev pub is_named : State → EventText → Bool

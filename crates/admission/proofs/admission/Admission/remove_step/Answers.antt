@@ -1,0 +1,5 @@
+use Rattle.admission.proofs.Whole.{whole_same}
+use Rattle.admission.proofs.admission.Admission.remove_step.Goals as goal
+
+pub invariant_of-self : goal.invariant_of-self
+invariant_of-self c = whole_same _ _ _ _ _ _ c.self.invariant c.remove.ensures.full c.remove.ensures.later

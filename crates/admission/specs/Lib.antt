@@ -1,0 +1,4 @@
+pub mod Admission
+pub mod Indexes
+pub mod Issues
+pub mod Items

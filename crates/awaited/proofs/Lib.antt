@@ -1,0 +1,5 @@
+mod BehindLemmas
+mod BesideLemmas
+mod FilledLemmas
+mod RuleLemmas
+mod StepLemmas

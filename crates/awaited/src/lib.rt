@@ -1,0 +1,21 @@
+//! What is awaited: sleeps, waits for events, invocations and cancel rules, each list with its dues. Stands on
+//! the stores below; contracts see each list in order of number.
+#![tactic(auto)]
+
+mod dues;
+mod entries;
+mod invocations;
+mod rules;
+mod sleeps;
+mod timed;
+mod waits;
+
+pub use entries::{Invocation, Sleep, WaitStep};
+pub use invocations::Invocations;
+pub use rules::Rules;
+pub use sleeps::Sleeps;
+pub use timed::{Timed, TimedList};
+pub use waits::Waits;
+
+#[cfg(test)]
+mod tests;

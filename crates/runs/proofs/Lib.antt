@@ -1,0 +1,10 @@
+pub mod Fill
+pub mod Kept
+pub mod Listed
+pub mod Mentioned
+pub mod Noting
+pub mod Numbers
+pub mod Rows
+pub mod Splits
+pub mod Told
+pub mod Written
