@@ -81,8 +81,8 @@ pub fit-want : (r : Run) (s : State) → IsFit s → IsFit (change_run r.number 
 fit-want r s h = fit-changed r.number want s
     (λ q k. run-changed s.runs s.events s.versions q q.steps true q.planned q.started k) h
 
-pub fit-called : (i : Item) (s : State) → IsFit s → IsFit (change_run i.run (called i) s)
-fit-called i s h = fit-changed i.run (called i) s
+pub fit-called : (i : Item) (s : State) → IsFit s → IsFit (change_run i.run (called i.target) s)
+fit-called i s h = fit-changed i.run (called i.target) s
     (λ q k. run-changed s.runs s.events s.versions q q.steps
     (q.wanted && not (bytes_eq i.target step_target)) q.planned true k) h
 

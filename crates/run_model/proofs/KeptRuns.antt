@@ -50,7 +50,7 @@ grows-record_in name result r = (refl, (_, refl))
 grows-want : Grows want
 grows-want r = (refl, follows-same r.steps.recorded)
 
-grows-called : (i : Item) → Grows (called i)
+grows-called : (i : Item) → Grows (called i.target)
 grows-called i r = (refl, follows-same r.steps.recorded)
 
 grows-with_plan : (name : List ℕ) → Grows (with_plan name)
@@ -125,7 +125,7 @@ module _ (K : ℕ → List Run → Type 0) (stays : Stays K) where
     counts = λ s h. h;
     moves = λ t next s low e h. h;
     arrives = λ t s low on before h. h;
-    issues = λ number i s next there h. stays.changes s.runs i.run (called i) s.live (grows-called i) h;
+    issues = λ number i s next there h. stays.changes s.runs i.run (called i.target) s.live (grows-called i) h;
     registers = λ at app s asked h. h;
     tidies = λ s h. holds-tidied s h;
   }

@@ -473,7 +473,7 @@ or-arrived t u on (inl none) (inl k) = inl (record {
 
 or-issued : (i : Item) (s : State) → LateOrHigh s → LateOrHigh (issue i s)
 or-issued i s h =
-    either (λ (k : Late s). late-changed i.run (called i) (record s { issues = s.issues ++ issued i s ∷ [] })
+    either (λ (k : Late s). late-changed i.run (called i.target) (record s { issues = s.issues ++ issued i s ∷ [] })
     (λ q. refl)
     (late-issues (s.issues ++ issued i s ∷ []) s
     (all-last (λ (j : Issue). s.moment ≤ j.due) s.issues (issued i s) k.dues.late_issues (omega arith)) k))

@@ -257,7 +257,7 @@ new-calls = record {
 pub new-issue : (i : Item) (s : State) → AreItemsNew s → AreItemsNew (issue i s)
 new-issue i s h =
     let left : List Item = without_number i.number s.items in
-    items-same i.run (called i) s.live left (λ q. (refl, refl))
+    items-same i.run (called i.target) s.live left (λ q. (refl, refl))
     (all-filter (IsItemNew s.live) (λ j. not (has_number i.number j)) s.items h)
 
 new-tidied : (s : State) → AreItemsNew s → AreItemsNew (tidied s)
@@ -289,7 +289,7 @@ new-fold limits inputs = new-after inputs (empty limits) tt
 
 -- ## Calls
 
-called-same : (i : Item) → Same (called i)
+called-same : (i : Item) → Same (called i.target)
 called-same i r = (refl, refl)
 
 -- a call is made for an item that was queued
@@ -298,16 +298,16 @@ calls-new : (number : ℕ) (i : Item) (r : Run) (f : Option FunctionEntry) (s : 
     → AllByRecursion (CallsNew (issue i s)) (call_found f r i (s.calls + 1) s)
 calls-new number i r None s there live h = tt
 calls-new number i r (Some f) s there live h = (
-  λ step. subst (λ run. IsNewStep (changed i.run (called i) s.live) run i.target)
+  λ step. subst (λ run. IsNewStep (changed i.run (called i.target) s.live) run i.target)
       (eqb-true i.run r.number (found-passes (λ (x : Run). i.run == x.number) s.live r live))
-      (new-same i.run i.target i.run (called i) s.live (called-same i)
+      (new-same i.run i.target i.run (called i.target) s.live (called-same i)
       (in-all (IsItemNew s.live) i s.items (in-found (has_number number) s.items i there) h step)),
   tt,
 )
 
 calls-stay : (i : Item) (s : State) (o : Out) → CallsNew s o → CallsNew (issue i s) o
 calls-stay i s (out.Call call function target run attempt steps events host port path body) h =
-    λ step. new-same run target i.run (called i) s.live (called-same i) (h step)
+    λ step. new-same run target i.run (called i.target) s.live (called-same i) (h step)
 calls-stay i s (out.Answer status body) h = tt
 calls-stay i s (out.Hang call) h = tt
 

@@ -1,3 +1,0 @@
-mod EventsLemmas
-mod Fresh
-mod StepLemmas

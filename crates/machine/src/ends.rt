@@ -1,0 +1,166 @@
+// How a run ends: what of it goes, what its parent records, and the event of a failed run.
+use crate::Machine;
+use crate::recording::Discovery;
+use crate::results::{copied, data_result, error_result};
+use kinds::{EventIn, Parent, RunStatus, Steps, error_object};
+use lists::{Bytes, Memory};
+use runs::{EndedRun, Run};
+use std::sync::ledger::Ledger;
+use step_ids::run_id;
+
+/// The name of the event of a failed run.
+const FAILED: &[u8] = b"inngest/function.failed";
+
+/// How the text of such an event begins.
+const FAILED_BEGUN: &[u8] = b"{\"name\":\"inngest/function.failed\",";
+
+impl Machine {
+    /// A run is completed with an output, within a reply.
+    pub(crate) fn complete_run(&mut self, run: u64, output: &[u8]) -> Result<(), Memory> {
+        let parent = self.end_run(run, RunStatus::Completed)?;
+        let result = data_result(self.alloc, output)?;
+        self.tell_parent(parent, result, Discovery::AtTheEnd)
+    }
+
+    /// A run has failed with an error, within a reply or a failure.
+    pub(crate) fn fail_run<L: Ledger>(
+        &mut self,
+        run: u64,
+        error: &[u8],
+        steps: &mut Steps<L>,
+    ) -> Result<(), Memory> {
+        let parent = self.end_run(run, RunStatus::Failed)?;
+        let result = error_result(self.alloc, error)?;
+        self.tell_parent(parent, result, Discovery::AtTheEnd)?;
+        self.raise_failed(run, error, steps)
+    }
+
+    /// A run is cancelled, where it has not ended. Its children go on.
+    pub(crate) fn cancel_run(&mut self, run: u64, discovery: Discovery) -> Result<(), Memory> {
+        if self.runs.live(run).is_none() {
+            return Ok(());
+        }
+        let parent = self.end_run(run, RunStatus::Cancelled)?;
+        let error = error_object(self.alloc, b"invoked run cancelled")?;
+        let result = error_result(self.alloc, error.as_slice())?;
+        self.tell_parent(parent, result, discovery)
+    }
+
+    // A run ends: its items, sleeps, waits, invocations and rules go. Its open calls stay. Gives who invoked it.
+    fn end_run(&mut self, number: u64, status: RunStatus) -> Result<Option<Parent>, Memory> {
+        let Some(run) = self.runs.live(number) else {
+            return Ok(None);
+        };
+        let parent = run.parent();
+        let version = run.version();
+        let events = run.events();
+        let ended = self.ended_run(run, status)?;
+        self.loose.runs.insert(number)?;
+        self.loose.touch(version, events)?;
+        self.runs.end(number)?;
+        self.admission.remove_run(number);
+        self.sleeps.drop_run(number);
+        self.waits.drop_run(number);
+        self.invocations.drop_run(number);
+        self.rules.drop_run(number);
+        if let Some(out) = self.ended.add(ended)? {
+            self.loose.runs.insert(out)?;
+        }
+        Ok(parent)
+    }
+
+    fn ended_run(&self, run: &Run, status: RunStatus) -> Result<EndedRun, Memory> {
+        Ok(EndedRun {
+            run: run.number(),
+            moment: run.moment(),
+            function: self.function_id(run.version())?,
+            status,
+            events: copied(self.alloc, run.events())?,
+        })
+    }
+
+    // The id of a function by its version.
+    fn function_id(&self, version: u64) -> Result<Bytes, Memory> {
+        match self.versions.get(version) {
+            Some(entry) => Ok(entry.function.id.clone()?),
+            None => Ok(Bytes::new(self.alloc)),
+        }
+    }
+
+    // A run that invoked this one, and still waits for it, records its result.
+    fn tell_parent(
+        &mut self,
+        parent: Option<Parent>,
+        text: Bytes,
+        discovery: Discovery,
+    ) -> Result<(), Memory> {
+        let Some(parent) = parent else {
+            return Ok(());
+        };
+        if !self.awaits(&parent) {
+            return Ok(());
+        }
+        self.invocations.remove_of(&parent);
+        self.wake(parent.run, &parent.hash, text)?;
+        self.discovered(discovery)
+    }
+
+    // Whether the step of a parent waits.
+    fn awaits(&self, parent: &Parent) -> bool {
+        match self.runs.live(parent.run) {
+            Some(run) => run.is_pending(&parent.hash),
+            None => false,
+        }
+    }
+
+    // None for a run of such an event.
+    fn raise_failed<L: Ledger>(
+        &mut self,
+        run: u64,
+        error: &[u8],
+        steps: &mut Steps<L>,
+    ) -> Result<(), Memory> {
+        match self.failed_event(run, error)? {
+            Some(event) => self.raise(&event, steps),
+            None => Ok(()),
+        }
+    }
+
+    // The event of a failed run.
+    fn failed_event(&self, run: u64, error: &[u8]) -> Result<Option<EventIn>, Memory> {
+        let Some(run) = self.runs.find_closing(run) else {
+            return Ok(None);
+        };
+        let first = self.texts.text_or_none(run.first());
+        if first.starts_with(FAILED_BEGUN) {
+            return Ok(None);
+        }
+        Ok(Some(EventIn {
+            name: Bytes::from_slice(self.alloc, FAILED)?,
+            content: self.failed_content(run, error, first)?,
+            id: None,
+            ts: None,
+            user: None,
+            v: None,
+        }))
+    }
+
+    fn failed_content(&self, run: &Run, error: &[u8], first: &[u8]) -> Result<Bytes, Memory> {
+        let mut content = Bytes::from_slice(self.alloc, b"{\"function_id\":\"")?;
+        content.extend_from_slice(self.function_id(run.version())?.as_slice())?;
+        content.extend_from_slice(b"\",\"run_id\":\"")?;
+        content.extend_from_slice(run_id(run.moment(), run.number()).as_slice())?;
+        content.extend_from_slice(b"\",\"error\":")?;
+        content.extend_from_slice(error)?;
+        content.extend_from_slice(b",\"event\":")?;
+        content.extend_from_slice(first)?;
+        content.extend_from_slice(b"}")?;
+        Ok(content)
+    }
+
+    // An event of the server's own, which cancels nothing.
+    fn raise<L: Ledger>(&mut self, event: &EventIn, steps: &mut Steps<L>) -> Result<(), Memory> {
+        let number = self.add_event(event)?;
+        self.follow(number, &event.name, Discovery::AtTheEnd, steps)
+    }
+}
