@@ -1,5 +1,15 @@
 // How a run ends: what of it goes, what its parent records, and the event of a failed run.
-use crate::Machine;
+ghost use Rattle.std.specs.Prelude.{◌≡◌, IfOk, OnOk};
+ghost use Rattle.machine.specs.Held.{Becomes, IsHeld};
+ghost use Rattle.machine.specs.View.{state_of};
+ghost use Rattle.machine.specs.Words.{cancel_at, complete_at, end_at, fail_at, failed_at, parent_at, raise_at, when_of};
+ghost use Rattle.run_model.specs.Ends.{ended_run, failed_content, function_id, id_at, raise, tell_parent};
+ghost use Rattle.run_model.specs.State.{function_at, live_run};
+ghost use Rattle.runs.specs.Changes.{is_pending_in};
+ghost use Rattle.runs.specs.Runs.{run_at};
+ghost use Rattle.step_ids.specs.Run.{run_text};
+
+use crate::Parts;
 use crate::recording::Discovery;
 use crate::results::{copied, data_result, error_result};
 use kinds::{EventIn, Parent, RunStatus, Steps, error_object};
@@ -14,9 +24,13 @@ const FAILED: &[u8] = b"inngest/function.failed";
 /// How the text of such an event begins.
 const FAILED_BEGUN: &[u8] = b"{\"name\":\"inngest/function.failed\",";
 
-impl Machine {
+impl Parts {
     /// A run is completed with an output, within a reply.
-    pub(crate) fn complete_run(&mut self, run: u64, output: &[u8]) -> Result<(), Memory> {
+    pub(crate) fn complete_run(&mut self, run: u64, output: &[u8]) -> Result<(), Memory>
+        requires held { IsHeld self.old }
+        ensures { OnOk result (Becomes
+            (complete_at (live_run run (state_of self.old)) output.now (state_of self.old)) self.old self.new) }
+    {
         let parent = self.end_run(run, RunStatus::Completed)?;
         let result = data_result(self.alloc, output)?;
         self.tell_parent(parent, result, Discovery::AtTheEnd)
@@ -28,7 +42,11 @@ impl Machine {
         run: u64,
         error: &[u8],
         steps: &mut Steps<L>,
-    ) -> Result<(), Memory> {
+    ) -> Result<(), Memory>
+        requires held { IsHeld self.old }
+        ensures { OnOk result (Becomes
+            (fail_at (live_run run (state_of self.old)) error.now (state_of self.old)) self.old self.new) }
+    {
         let parent = self.end_run(run, RunStatus::Failed)?;
         let result = error_result(self.alloc, error)?;
         self.tell_parent(parent, result, Discovery::AtTheEnd)?;
@@ -36,7 +54,12 @@ impl Machine {
     }
 
     /// A run is cancelled, where it has not ended. Its children go on.
-    pub(crate) fn cancel_run(&mut self, run: u64, discovery: Discovery) -> Result<(), Memory> {
+    pub(crate) fn cancel_run(&mut self, run: u64, discovery: Discovery) -> Result<(), Memory>
+        requires held { IsHeld self.old }
+        ensures { OnOk result (Becomes
+            (cancel_at (when_of discovery) (live_run run (state_of self.old)) (state_of self.old))
+            self.old self.new) }
+    {
         if self.runs.live(run).is_none() {
             return Ok(());
         }
@@ -47,7 +70,12 @@ impl Machine {
     }
 
     // A run ends: its items, sleeps, waits, invocations and rules go. Its open calls stay. Gives who invoked it.
-    fn end_run(&mut self, number: u64, status: RunStatus) -> Result<Option<Parent>, Memory> {
+    fn end_run(&mut self, number: u64, status: RunStatus) -> Result<Option<Parent>, Memory>
+        requires held { IsHeld self.old }
+        ensures parent { IfOk result (λ p. p ≡ parent_at (live_run number (state_of self.old))) }
+        ensures now { OnOk result (Becomes
+            (end_at (live_run number (state_of self.old)) status (state_of self.old)) self.old self.new) }
+    {
         let Some(run) = self.runs.live(number) else {
             return Ok(None);
         };
@@ -69,7 +97,9 @@ impl Machine {
         Ok(parent)
     }
 
-    fn ended_run(&self, run: &Run, status: RunStatus) -> Result<EndedRun, Memory> {
+    fn ended_run(&self, run: &Run, status: RunStatus) -> Result<EndedRun, Memory>
+        ensures { IfOk result (λ e. e ≡ ended_run run.now status (state_of self.now)) }
+    {
         Ok(EndedRun {
             run: run.number(),
             moment: run.moment(),
@@ -80,7 +110,9 @@ impl Machine {
     }
 
     // The id of a function by its version.
-    fn function_id(&self, version: u64) -> Result<Bytes, Memory> {
+    fn function_id(&self, version: u64) -> Result<Bytes, Memory>
+        ensures { IfOk result (λ id. id ≡ id_at (function_at version (state_of self.now))) }
+    {
         match self.versions.get(version) {
             Some(entry) => Ok(entry.function.id.clone()?),
             None => Ok(Bytes::new(self.alloc)),
@@ -93,7 +125,11 @@ impl Machine {
         parent: Option<Parent>,
         text: Bytes,
         discovery: Discovery,
-    ) -> Result<(), Memory> {
+    ) -> Result<(), Memory>
+        requires held { IsHeld self.old }
+        ensures { OnOk result (Becomes
+            (tell_parent (when_of discovery) parent text (state_of self.old)) self.old self.new) }
+    {
         let Some(parent) = parent else {
             return Ok(());
         };
@@ -106,7 +142,9 @@ impl Machine {
     }
 
     // Whether the step of a parent waits.
-    fn awaits(&self, parent: &Parent) -> bool {
+    fn awaits(&self, parent: &Parent) -> bool
+        ensures { result ≡ is_pending_in parent.now.hash (live_run parent.now.run (state_of self.now)) }
+    {
         match self.runs.live(parent.run) {
             Some(run) => run.is_pending(&parent.hash),
             None => false,
@@ -119,7 +157,11 @@ impl Machine {
         run: u64,
         error: &[u8],
         steps: &mut Steps<L>,
-    ) -> Result<(), Memory> {
+    ) -> Result<(), Memory>
+        requires held { IsHeld self.old }
+        ensures { OnOk result (Becomes
+            (raise_at (run_at run self.old.runs.closing) error.now (state_of self.old)) self.old self.new) }
+    {
         match self.failed_event(run, error)? {
             Some(event) => self.raise(&event, steps),
             None => Ok(()),
@@ -127,7 +169,10 @@ impl Machine {
     }
 
     // The event of a failed run.
-    fn failed_event(&self, run: u64, error: &[u8]) -> Result<Option<EventIn>, Memory> {
+    fn failed_event(&self, run: u64, error: &[u8]) -> Result<Option<EventIn>, Memory>
+        ensures { IfOk result (λ event. event
+            ≡ failed_at (run_at run self.now.runs.closing) error.now (state_of self.now)) }
+    {
         let Some(run) = self.runs.find_closing(run) else {
             return Ok(None);
         };
@@ -145,7 +190,10 @@ impl Machine {
         }))
     }
 
-    fn failed_content(&self, run: &Run, error: &[u8], first: &[u8]) -> Result<Bytes, Memory> {
+    fn failed_content(&self, run: &Run, error: &[u8], first: &[u8]) -> Result<Bytes, Memory>
+        ensures { IfOk result (λ text. text ≡ failed_content (function_id run.now (state_of self.now))
+            (run_text run.now.moment run.now.number) error.now first.now) }
+    {
         let mut content = Bytes::from_slice(self.alloc, b"{\"function_id\":\"")?;
         content.extend_from_slice(self.function_id(run.version())?.as_slice())?;
         content.extend_from_slice(b"\",\"run_id\":\"")?;
@@ -159,7 +207,10 @@ impl Machine {
     }
 
     // An event of the server's own, which cancels nothing.
-    fn raise<L: Ledger>(&mut self, event: &EventIn, steps: &mut Steps<L>) -> Result<(), Memory> {
+    fn raise<L: Ledger>(&mut self, event: &EventIn, steps: &mut Steps<L>) -> Result<(), Memory>
+        requires held { IsHeld self.old }
+        ensures { OnOk result (Becomes (raise event.now (state_of self.old)) self.old self.new) }
+    {
         let number = self.add_event(event)?;
         self.follow(number, &event.name, Discovery::AtTheEnd, steps)
     }

@@ -1,5 +1,17 @@
 // A step invokes a function: an event, a run of the function, and what waits for its end.
-use crate::Machine;
+ghost use Rattle.std.specs.Prelude.{◌≡◌, true, Some, IfOk, OnOk};
+ghost use Rattle.kinds.specs.declared.store.Pending.TheVariants.{Invocation};
+ghost use Rattle.machine.specs.Held.{Becomes, IsHeld};
+ghost use Rattle.machine.specs.Operations.{invoke_at, invoke_version};
+ghost use Rattle.machine.specs.View.{state_of};
+ghost use Rattle.run_model.specs.Ends.{own_event};
+ghost use Rattle.run_model.specs.Recording.{record_result};
+ghost use Rattle.run_model.specs.Replies.{invoked_event, invoked_name, invoked_with, unknown_function};
+ghost use Rattle.run_model.specs.State.{function_at, live_run};
+ghost use Rattle.runs.specs.Changes.{if_new, is_pending_in, naming_in, pend_in};
+
+use crate::Parts;
+use crate::making::later;
 use crate::results::error_result;
 use awaited::Invocation;
 use json_text::{Kind, Node, Tree, JsonFault};
@@ -11,7 +23,7 @@ use std::alloc::Global;
 /// The name of the event of an invocation.
 const INVOKED: &[u8] = b"inngest/function.invoked";
 
-impl Machine {
+impl Parts {
     /// A step waits for the end of a run that is made now, or records that there is no such function.
     pub(crate) fn invoke(
         &mut self,
@@ -20,7 +32,14 @@ impl Machine {
         function: &Bytes,
         payload: Option<Bytes>,
         timeout: Option<Time>,
-    ) -> Result<Naming, Memory> {
+    ) -> Result<Naming, Memory>
+        requires held { IsHeld self.old }
+        ensures named { IfOk result (λ n. n
+            ≡ naming_in (pend_in hash Invocation) (live_run run (state_of self.old))) }
+        ensures now { IfOk result (λ n. Becomes (if_new n
+            (invoke_at (live_run run (state_of self.old)) hash function.now payload timeout (state_of self.old))
+            (state_of self.old)) self.old self.new) }
+    {
         let naming = self.runs.pend(run, &hash, Pending::Invocation)?;
         if naming != Naming::New {
             return Ok(naming);
@@ -35,7 +54,12 @@ impl Machine {
         Ok(naming)
     }
 
-    fn refuse_invocation(&mut self, run: u64, hash: &StepHash) -> Result<(), Memory> {
+    fn refuse_invocation(&mut self, run: u64, hash: &StepHash) -> Result<(), Memory>
+        requires held { IsHeld self.old }
+        requires pending { is_pending_in hash.now (live_run run (state_of self.old)) ≡ true }
+        ensures { OnOk result (Becomes
+            (record_result run hash.now unknown_function (state_of self.old)) self.old self.new) }
+    {
         let error = error_object(self.alloc, b"unknown function")?;
         let text = error_result(self.alloc, error.as_slice())?;
         self.wake(run, hash, text)
@@ -49,16 +73,17 @@ impl Machine {
         version: u64,
         payload: &Option<Bytes>,
         timeout: Option<Time>,
-    ) -> Result<(), Memory> {
+    ) -> Result<(), Memory>
+        requires held { IsHeld self.old }
+        ensures { OnOk result (Becomes (invoke_version (function_at version (state_of self.old))
+            run hash payload.now timeout (state_of self.old)) self.old self.new) }
+    {
         let event = invoked_event(self.alloc, payload)?;
         let event = self.add_event(&event)?;
-        let Some(entry) = self.versions.get(version) else {
-            return Ok(());
-        };
-        let plan = self.plan_run(entry, event)?;
         let mut events = Numbers::new(self.alloc);
         events.push(event)?;
-        let child = self.make_run(plan, events, Some(Parent { run, hash }))?;
+        let child = later(self.counts.runs, 1)?;
+        self.make_run(version, events, Some(Parent { run, hash }))?;
         let due = match timeout {
             Some(time) => Some(self.due_at(time)?),
             None => None,
@@ -75,7 +100,9 @@ impl Machine {
 }
 
 // The event of an invocation, with its payload's data.
-fn invoked_event(alloc: Global, payload: &Option<Bytes>) -> Result<EventIn, Memory> {
+fn invoked_event(alloc: Global, payload: &Option<Bytes>) -> Result<EventIn, Memory>
+    ensures { IfOk result (λ event. event ≡ invoked_event payload.now) }
+{
     let Some(payload) = payload else {
         return event_with(alloc, b"{}", None, None);
     };
@@ -88,7 +115,9 @@ fn invoked_event(alloc: Global, payload: &Option<Bytes>) -> Result<EventIn, Memo
     }
 }
 
-fn event_of(alloc: Global, tree: &Tree<'_>) -> Result<EventIn, Memory> {
+fn event_of(alloc: Global, tree: &Tree<'_>) -> Result<EventIn, Memory>
+    ensures { IfOk result (λ event. event ≡ invoked_with (Some tree.now.value)) }
+{
     let root = tree.root();
     let user = slice_of(alloc, tree, tree.member(root, b"user"))?;
     let v = slice_of(alloc, tree, tree.member(root, b"v"))?;
@@ -112,7 +141,9 @@ fn event_with(
     content: &[u8],
     user: Option<Bytes>,
     v: Option<Bytes>,
-) -> Result<EventIn, Memory> {
+) -> Result<EventIn, Memory>
+    ensures { IfOk result (λ event. event ≡ own_event invoked_name content.now user v) }
+{
     Ok(EventIn {
         name: Bytes::from_slice(alloc, INVOKED)?,
         content: Bytes::from_slice(alloc, content)?,

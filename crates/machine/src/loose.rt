@@ -1,35 +1,44 @@
+ghost use Rattle.std.specs.Prelude.{◌≡◌, OnOk};
+ghost use Rattle.machine.specs.Numbers.{AreJoined, IsTouched, nothing};
+
+use crate::numbers::NumberSet;
 use lists::Memory;
 use std::alloc::Global;
-use std::collections::BTreeSet;
+use std::marker::Model;
 
 /// What this step touched, so that it may be named no more: only this is looked at when the step ends.
 #[derive(Drop)]
 pub(crate) struct Loose {
-    pub(crate) runs: BTreeSet<u64>,
-    pub(crate) events: BTreeSet<u64>,
-    pub(crate) versions: BTreeSet<u64>,
+    pub(crate) runs: NumberSet,
+    pub(crate) events: NumberSet,
+    pub(crate) versions: NumberSet,
+}
+
+impl Model for Loose {
+    ghost use Rattle.machine.specs.Numbers.{Touched};
+
+    ghost Value = { Touched };
+
+    ghost view = { λ l. record { runs = l.runs; events = l.events; versions = l.versions } };
 }
 
 impl Loose {
     /// Nothing, which takes no memory.
-    pub(crate) fn empty(alloc: Global) -> Self {
+    pub(crate) fn empty(alloc: Global) -> Self
+        ensures { result ≡ nothing }
+    {
         Loose {
-            runs: BTreeSet::new(alloc),
-            events: BTreeSet::new(alloc),
-            versions: BTreeSet::new(alloc),
+            runs: NumberSet::empty(alloc),
+            events: NumberSet::empty(alloc),
+            versions: NumberSet::empty(alloc),
         }
     }
 
     /// Which runs and windows name these events, or the version, has changed.
-    pub(crate) fn touch(&mut self, version: u64, events: &[u64]) -> Result<(), Memory> {
+    pub(crate) fn touch(&mut self, version: u64, events: &[u64]) -> Result<(), Memory>
+        ensures { OnOk result (IsTouched version events.now self.old self.new) }
+    {
         self.versions.insert(version)?;
-        self.touch_events(events)
-    }
-
-    pub(crate) fn touch_events(&mut self, events: &[u64]) -> Result<(), Memory> {
-        for event in events {
-            self.events.insert(*event)?;
-        }
-        Ok(())
+        self.events.insert_all(events)
     }
 }

@@ -1,16 +1,23 @@
+ghost use Rattle.std.specs.Prelude.{◌≡◌, IfOk, MatchResult, None, Some};
+ghost use Rattle.run_model.specs.Machine.{refusal, refusal_of_call, refusal_of_cancel, refusal_of_events, refusal_of_registration};
+ghost use Rattle.run_model.specs.State.{empty, greatest, kept, live, live_run, open_issue};
+ghost use Rattle.machine.specs.View.{state_of};
+
+use crate::Parts;
 use crate::counts::Counts;
 use crate::loose::Loose;
-use crate::texts::Texts;
+use crate::numbers::NumberSet;
 use crate::versions::Versions;
-use admission::Admission;
 use crate::windows::WindowSet;
+use admission::Admission;
 use awaited::{Invocations, Rules, Sleeps, Waits};
+use event_texts::Texts;
 use intake::Seen;
 use kinds::{App, Input, Limits, Refusal};
 use lists::Memory;
 use runs::{EndedRuns, Runs};
 use std::alloc::Global;
-use std::collections::BTreeSet;
+use std::marker::Model;
 
 /// The last millisecond of the year 9999, as which a later clock reading counts.
 pub(crate) const LAST_MOMENT: u64 = 253_402_300_799_999;
@@ -21,84 +28,96 @@ const SPENT: u64 = 1 << 61;
 /// The machine between two inputs. Contracts see it as the documented machine's state.
 #[derive(Drop)]
 pub struct Machine {
-    pub(crate) alloc: Global,
-    pub(crate) limits: Limits,
-    pub(crate) moment: u64,
-    pub(crate) counts: Counts,
-    pub(crate) versions: Versions,
-    pub(crate) seen: Seen,
-    pub(crate) texts: Texts,
-    pub(crate) runs: Runs,
-    pub(crate) ended: EndedRuns,
-    pub(crate) admission: Admission,
-    pub(crate) sleeps: Sleeps,
-    pub(crate) waits: Waits,
-    pub(crate) invocations: Invocations,
-    pub(crate) rules: Rules,
-    pub(crate) windows: WindowSet,
-    /// All runs that may want to find out what comes next and have no item for that.
-    pub(crate) wanting: BTreeSet<u64>,
-    /// All that may go at the end of the step.
-    pub(crate) loose: Loose,
+    pub(crate) parts: Parts,
+}
+
+impl Model for Machine {
+    ghost use Rattle.run_model.specs.State.{State};
+    ghost use Rattle.machine.specs.Held.{IsAtRest};
+    ghost use Rattle.machine.specs.View.{state_of};
+
+    ghost Value = { State };
+
+    ghost view = { λ m. state_of m.parts };
+
+    ghost invariant = { λ m. IsAtRest m.parts };
 }
 
 impl Machine {
     /// The machine before its first input, with its limits.
-    pub fn empty(alloc: Global, limits: Limits) -> Result<Self, Memory> {
+    pub fn empty(alloc: Global, limits: Limits) -> Result<Self, Memory>
+        ensures { IfOk result (λ m. m ≡ empty limits) }
+    {
         Ok(Machine {
-            alloc,
-            limits,
-            moment: 0,
-            counts: Counts::empty(),
-            versions: Versions::empty(alloc),
-            seen: Seen::empty(alloc),
-            texts: Texts::empty(alloc),
-            runs: Runs::empty(alloc),
-            ended: EndedRuns::empty(alloc),
-            admission: Admission::empty(alloc),
-            sleeps: Sleeps::empty(alloc),
-            waits: Waits::empty(alloc),
-            invocations: Invocations::empty(alloc),
-            rules: Rules::empty(alloc),
-            windows: WindowSet::empty(alloc),
-            wanting: BTreeSet::new(alloc),
-            loose: Loose::empty(alloc),
+            parts: Parts {
+                alloc,
+                limits,
+                moment: 0,
+                counts: Counts::empty(),
+                versions: Versions::empty(alloc),
+                seen: Seen::empty(alloc),
+                texts: Texts::empty(alloc),
+                runs: Runs::empty(alloc),
+                ended: EndedRuns::empty(alloc),
+                admission: Admission::empty(alloc),
+                sleeps: Sleeps::empty(alloc),
+                waits: Waits::empty(alloc),
+                invocations: Invocations::empty(alloc),
+                rules: Rules::empty(alloc),
+                windows: WindowSet::empty(alloc),
+                wanting: NumberSet::empty(alloc),
+                loose: Loose::empty(alloc),
+            },
         })
     }
 
     /// The moment of the last input, in milliseconds since 1970.
-    pub fn moment(&self) -> u64 {
-        self.moment
+    pub fn moment(&self) -> u64
+        ensures { result ≡ self.now.moment }
+    {
+        self.parts.moment
     }
 
     /// How many inputs were taken.
-    pub fn inputs(&self) -> u64 {
-        self.counts.inputs
+    pub fn inputs(&self) -> u64
+        ensures { result ≡ self.now.inputs }
+    {
+        self.parts.counts.inputs
     }
 
     /// How many numbers were given to events.
-    pub fn events(&self) -> u64 {
-        self.counts.events
+    pub fn events(&self) -> u64
+        ensures { result ≡ self.now.events }
+    {
+        self.parts.counts.events
     }
 
     /// The greatest count of names and inputs.
-    pub fn greatest(&self) -> u64 {
-        self.counts.greatest()
+    pub fn greatest(&self) -> u64
+        ensures { result ≡ greatest self.now }
+    {
+        self.parts.counts.greatest()
     }
 
     /// How many runs have not ended.
-    pub fn live(&self) -> u64 {
-        self.runs.count()
+    pub fn live(&self) -> u64
+        ensures { result ≡ live self.now }
+    {
+        self.parts.runs.count()
     }
 
     // The bytes that are kept: of the events that runs and windows name, of the results of runs, and of remembered ids.
     fn kept(&self) -> u64 {
-        let named = self.texts.used().saturating_add(self.runs.results());
-        named.saturating_add(self.seen.weight())
+        let named = self.parts.texts.bytes().saturating_add(self.parts.runs.results());
+        named.saturating_add(self.parts.seen.weight())
     }
 
     /// Whether the machine as it stands takes an input, and if not, the first reason why.
-    pub fn check(&self, input: &Input) -> Result<(), Refusal> {
+    pub fn check(&self, input: &Input) -> Result<(), Refusal>
+        ensures { MatchResult result
+            (λ _. refusal self.now input.now ≡ None)
+            (λ cause. refusal self.now input.now ≡ Some cause) }
+    {
         let greatest = self.greatest();
         if greatest >= SPENT {
             return Err(Refusal::NumbersSpent { greatest });
@@ -113,22 +132,30 @@ impl Machine {
     }
 
     // Whether what is kept and the runs leave room for new work.
-    fn check_room(&self) -> Result<(), Refusal> {
+    fn check_room(&self) -> Result<(), Refusal>
+        ensures { MatchResult result
+            (λ _. refusal_of_events self.now ≡ None)
+            (λ cause. refusal_of_events self.now ≡ Some cause) }
+    {
         let kept = self.kept();
-        if kept >= self.limits.kept {
+        if kept >= self.parts.limits.kept {
             return Err(Refusal::KeptFull { kept });
         }
         let live = self.live();
-        if live >= self.limits.live {
+        if live >= self.parts.limits.live {
             return Err(Refusal::RunsFull { live });
         }
         Ok(())
     }
 
     // Whether the functions that would be current after a registration are few enough.
-    fn check_functions(&self, app: &App) -> Result<(), Refusal> {
-        let functions = self.versions.current_after(app);
-        if functions > self.limits.functions {
+    fn check_functions(&self, app: &App) -> Result<(), Refusal>
+        ensures { MatchResult result
+            (λ _. refusal_of_registration app.now self.now ≡ None)
+            (λ cause. refusal_of_registration app.now self.now ≡ Some cause) }
+    {
+        let functions = self.parts.versions.current_after(app);
+        if functions > self.parts.limits.functions {
             Err(Refusal::FunctionsFull { functions })
         } else {
             Ok(())
@@ -136,8 +163,12 @@ impl Machine {
     }
 
     // Whether a call is open.
-    fn check_call(&self, call: u64) -> Result<(), Refusal> {
-        if self.admission.is_open(call) {
+    fn check_call(&self, call: u64) -> Result<(), Refusal>
+        ensures { MatchResult result
+            (λ _. refusal_of_call call (open_issue call self.now) ≡ None)
+            (λ cause. refusal_of_call call (open_issue call self.now) ≡ Some cause) }
+    {
+        if self.parts.admission.is_open(call) {
             Ok(())
         } else {
             Err(Refusal::UnknownCall { call })
@@ -145,10 +176,14 @@ impl Machine {
     }
 
     // Whether a run can be cancelled.
-    fn check_run(&self, run: u64) -> Result<(), Refusal> {
-        if self.runs.live(run).is_some() {
+    fn check_run(&self, run: u64) -> Result<(), Refusal>
+        ensures { MatchResult result
+            (λ _. refusal_of_cancel run (live_run run self.now) self.now ≡ None)
+            (λ cause. refusal_of_cancel run (live_run run self.now) self.now ≡ Some cause) }
+    {
+        if self.parts.runs.live(run).is_some() {
             Ok(())
-        } else if self.ended.is_last(run) {
+        } else if self.parts.ended.is_last(run) {
             Err(Refusal::RunEnded { run })
         } else {
             Err(Refusal::UnknownRun { run })

@@ -1,11 +1,21 @@
 // Events are offered to functions: a function makes a run of one, or gathers it in a window.
-use crate::Machine;
-use crate::making::Plan;
+ghost use Rattle.std.specs.Prelude.{◌≡◌, ◌≤◌, IfOk, OnOk};
+ghost use Rattle.std.specs.List.{list_any, slice_get};
+ghost use Rattle.std.specs.Option.{option_and_then, option_copied, option_map};
+ghost use Rattle.event_keys.specs.Expressions.{holds_over};
+ghost use Rattle.machine.specs.Held.{Becomes, IsHeld};
+ghost use Rattle.machine.specs.Offers.{IsOffer, IsOfferAt, IsOfferRight, IsRuleOf, gather_at, is_trigger, take_offer, value_by, without_key};
+ghost use Rattle.machine.specs.View.{state_of};
+ghost use Rattle.machine.specs.Words.{event_at};
+ghost use Rattle.run_model.specs.Events.{key_of, offer_to_all, window_rule_of};
+ghost use Rattle.run_model.specs.State.{function_at};
+
+use crate::Parts;
 use crate::windows::Joined;
 use event_keys::ReadEvent;
 use expr::Expr;
 use functions::FunctionEntry;
-use kinds::{Batch, Debounce, Function, Numbers, WindowRule};
+use kinds::{Batch, Debounce, Function, Numbers, Window, WindowRule};
 use lists::{Bytes, Memory};
 use std::alloc::Global;
 
@@ -14,8 +24,8 @@ use std::alloc::Global;
 enum Offer {
     /// The function isn't triggered.
     Nothing,
-    /// A run of its own.
-    Run(Plan),
+    /// A run of its own, of this version.
+    Run { version: u64 },
     /// A window of this version, rule and value.
     Window {
         version: u64,
@@ -24,13 +34,18 @@ enum Offer {
     },
 }
 
-impl Machine {
+impl Parts {
     /// Offers an event to the current functions in order of version.
     pub(crate) fn offer_to_all(
         &mut self,
         number: u64,
         name: &Bytes,
-    ) -> Result<(), Memory> {
+    ) -> Result<(), Memory>
+        requires held { IsHeld self.old }
+        requires given { number ≤ self.old.counts.events }
+        ensures { OnOk result (Becomes (offer_to_all self.old.versions.current
+            (event_at number name.now (state_of self.old)) (state_of self.old)) self.old self.new) }
+    {
         for place in 0..self.versions.current().len() {
             let offer = self.offer_at(place, number, name)?;
             self.take_offer(offer, number)?;
@@ -44,7 +59,10 @@ impl Machine {
         place: usize,
         number: u64,
         name: &Bytes,
-    ) -> Result<Offer, Memory> {
+    ) -> Result<Offer, Memory>
+        ensures { IfOk result (IsOfferAt (slice_get self.now.versions.current place)
+            (event_at number name.now (state_of self.now))) }
+    {
         match self.versions.current().get(place) {
             Some(entry) => self.offer(entry, number, name),
             None => Ok(Offer::Nothing),
@@ -56,13 +74,18 @@ impl Machine {
         entry: &FunctionEntry,
         number: u64,
         name: &Bytes,
-    ) -> Result<Offer, Memory> {
+    ) -> Result<Offer, Memory>
+        ensures { IfOk result
+            (IsOffer entry.now (event_at number name.now (state_of self.now))) }
+    {
         let text = self.texts.text_or_none(number);
         if !is_triggered(self.alloc, &entry.function, name, text)? {
             return Ok(Offer::Nothing);
         }
         match window_rule(&entry.function) {
-            None => Ok(Offer::Run(self.plan_run(entry, number)?)),
+            None => Ok(Offer::Run {
+                version: entry.version,
+            }),
             Some(rule) => Ok(Offer::Window {
                 version: entry.version,
                 rule,
@@ -75,14 +98,18 @@ impl Machine {
         &mut self,
         offer: Offer,
         event: u64,
-    ) -> Result<(), Memory> {
+    ) -> Result<(), Memory>
+        requires held { IsHeld self.old }
+        requires given { event ≤ self.old.counts.events }
+        requires right { IsOfferRight (state_of self.old) offer }
+        ensures { OnOk result (Becomes (take_offer offer event (state_of self.old)) self.old self.new) }
+    {
         match offer {
             Offer::Nothing => Ok(()),
-            Offer::Run(plan) => {
+            Offer::Run { version } => {
                 let mut events = Numbers::new(self.alloc);
                 events.push(event)?;
-                self.make_run(plan, events, None)?;
-                Ok(())
+                self.make_run(version, events, None)
             }
             Offer::Window {
                 version,
@@ -99,14 +126,24 @@ impl Machine {
         rule: &WindowRule,
         value: &Bytes,
         event: u64,
-    ) -> Result<(), Memory> {
+    ) -> Result<(), Memory>
+        requires held { IsHeld self.old }
+        requires given { event ≤ self.old.counts.events }
+        requires right { IsRuleOf (function_at version (state_of self.old)) rule.now }
+        ensures { OnOk result (Becomes
+            (gather_at (function_at version (state_of self.old)) rule.now value.now event (state_of self.old))
+            self.old self.new) }
+    {
         let Some(number) = self.counts.entries.checked_add(1) else {
             return Err(Memory);
         };
         self.loose.versions.insert(version)?;
         self.loose.events.insert(event)?;
         if let Some(window) = self.windows.find(version, value) {
-            self.loose.touch_events(window.events.as_slice())?;
+            match window {
+                Window::Debounce { event: last, .. } => self.loose.events.insert(*last)?,
+                Window::Batch { events, .. } => self.loose.events.insert_all(events.as_slice())?,
+            }
         }
         let joined = self
             .windows
@@ -117,23 +154,8 @@ impl Machine {
                 Ok(())
             }
             Joined::Waits => Ok(()),
-            Joined::Full { events } => self.make_window_run(version, events),
+            Joined::Full { events } => self.make_run(version, events, None),
         }
-    }
-
-    /// The run of a window that is over.
-    pub(crate) fn make_window_run(
-        &mut self,
-        version: u64,
-        events: Numbers,
-    ) -> Result<(), Memory> {
-        let first = events.get(0).copied().unwrap_or(0);
-        let Some(entry) = self.versions.get(version) else {
-            return Ok(());
-        };
-        let plan = self.plan_run(entry, first)?;
-        self.make_run(plan, events, None)?;
-        Ok(())
     }
 }
 
@@ -143,7 +165,9 @@ fn is_triggered(
     function: &Function,
     name: &Bytes,
     text: &[u8],
-) -> Result<bool, Memory> {
+) -> Result<bool, Memory>
+    ensures { IfOk result (λ b. b ≡ list_any (is_trigger name.now text.now) function.now.triggers) }
+{
     for trigger in function.triggers.as_slice() {
         if trigger.event == *name && holds(alloc, trigger.cond.as_ref(), text)? {
             return Ok(true);
@@ -157,7 +181,9 @@ fn holds(
     alloc: Global,
     cond: Option<&Expr>,
     text: &[u8],
-) -> Result<bool, Memory> {
+) -> Result<bool, Memory>
+    ensures { IfOk result (λ b. b ≡ holds_over (option_copied cond.entry) text.now) }
+{
     match cond {
         Some(expr) => ReadEvent::read(alloc, text)?.holds(alloc, Some(expr)),
         None => Ok(true),
@@ -165,7 +191,9 @@ fn holds(
 }
 
 // How a function gathers events, where it does. The rule's key stays with the function.
-fn window_rule(function: &Function) -> Option<WindowRule> {
+fn window_rule(function: &Function) -> Option<WindowRule>
+    ensures { result ≡ option_map without_key (window_rule_of function.now) }
+{
     if let Some(debounce) = &function.debounce {
         return Some(WindowRule::Debounce(Debounce {
             period: debounce.period,
@@ -186,14 +214,18 @@ fn window_value(
     alloc: Global,
     function: &Function,
     text: &[u8],
-) -> Result<Bytes, Memory> {
+) -> Result<Bytes, Memory>
+    ensures { IfOk result (λ value. value ≡ value_by (window_rule_of function.now) text.now) }
+{
     match window_key(function) {
         Some(key) => ReadEvent::read(alloc, text)?.key_value(alloc, Some(key)),
         None => Ok(Bytes::new(alloc)),
     }
 }
 
-fn window_key(function: &Function) -> Option<&Expr> {
+fn window_key(function: &Function) -> Option<&Expr>
+    ensures { option_copied result ≡ option_and_then key_of (window_rule_of function.now) }
+{
     match (&function.debounce, &function.batch) {
         (Some(debounce), _) => debounce.key.as_ref(),
         (None, Some(batch)) => batch.key.as_ref(),

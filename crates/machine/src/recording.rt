@@ -1,5 +1,14 @@
 // What a run records, and when it is found out what comes next.
-use crate::Machine;
+ghost use Rattle.std.specs.Prelude.{◌≡◌, true, IfOk, OnOk};
+ghost use Rattle.machine.specs.Held.{Becomes, IsHeld};
+ghost use Rattle.machine.specs.View.{state_of};
+ghost use Rattle.machine.specs.Words.{when_of};
+ghost use Rattle.run_model.specs.Recording.{change_run, discovered, record_result};
+ghost use Rattle.run_model.specs.Replies.{want};
+ghost use Rattle.run_model.specs.State.{live_run};
+ghost use Rattle.runs.specs.Changes.{if_new, is_pending_in, keep_in, naming_in};
+
+use crate::Parts;
 use kinds::StepHash;
 use lists::{Bytes, Memory};
 use runs::Naming;
@@ -12,8 +21,12 @@ pub(crate) enum Discovery {
     AtTheEnd,
 }
 
-impl Machine {
-    pub(crate) fn discovered(&mut self, discovery: Discovery) -> Result<(), Memory> {
+impl Parts {
+    pub(crate) fn discovered(&mut self, discovery: Discovery) -> Result<(), Memory>
+        requires held { IsHeld self.old }
+        ensures { OnOk result
+            (Becomes (discovered (when_of discovery) (state_of self.old)) self.old self.new) }
+    {
         match discovery {
             Discovery::AtOnce => self.discover(),
             Discovery::AtTheEnd => Ok(()),
@@ -21,7 +34,12 @@ impl Machine {
     }
 
     /// What a pending step of a run waits for has come. It isn't called any more.
-    pub(crate) fn wake(&mut self, run: u64, hash: &StepHash, text: Bytes) -> Result<(), Memory> {
+    pub(crate) fn wake(&mut self, run: u64, hash: &StepHash, text: Bytes) -> Result<(), Memory>
+        requires held { IsHeld self.old }
+        requires pending { is_pending_in hash.now (live_run run (state_of self.old)) ≡ true }
+        ensures { OnOk result
+            (Becomes (record_result run hash.now text (state_of self.old)) self.old self.new) }
+    {
         self.admission.remove_step(run, hash);
         self.wanting.insert(run)?;
         self.runs.wake(run, hash, text)?;
@@ -34,17 +52,31 @@ impl Machine {
         run: u64,
         hash: &StepHash,
         text: Bytes,
-    ) -> Result<Naming, Memory> {
+    ) -> Result<Naming, Memory>
+        requires held { IsHeld self.old }
+        ensures named { IfOk result (λ n.
+            n ≡ naming_in (keep_in hash.now text) (live_run run (state_of self.old))) }
+        ensures now { IfOk result (λ n. Becomes
+            (if_new n (record_result run hash.now text (state_of self.old)) (state_of self.old))
+            self.old self.new) }
+    {
         let naming = self.runs.keep(run, hash, text)?;
-        if naming == Naming::New {
-            self.admission.remove_step(run, hash);
-            self.wanting.insert(run)?;
+        match naming {
+            Naming::New => {
+                self.admission.remove_step(run, hash);
+                self.wanting.insert(run)?;
+                Ok(Naming::New)
+            }
+            Naming::Known => Ok(Naming::Known),
+            Naming::Full => Ok(Naming::Full),
         }
-        Ok(naming)
     }
 
     /// A run is to find out what comes next.
-    pub(crate) fn want(&mut self, run: u64) -> Result<(), Memory> {
+    pub(crate) fn want(&mut self, run: u64) -> Result<(), Memory>
+        requires held { IsHeld self.old }
+        ensures { OnOk result (Becomes (change_run run want (state_of self.old)) self.old self.new) }
+    {
         self.wanting.insert(run)?;
         self.runs.want(run);
         Ok(())

@@ -1,5 +1,17 @@
 // What a reply to a call does, and a call that fails.
-use crate::Machine;
+ghost use Rattle.std.specs.Prelude.{◌≡◌, ◌<◌, IfOk, OnOk};
+ghost use Rattle.kinds.specs.ErrorObject.{error_object};
+ghost use Rattle.kinds.specs.RunSteps.{is_recorded};
+ghost use Rattle.machine.specs.Held.{Becomes, IsHeld};
+ghost use Rattle.machine.specs.Replies.{idle_at, lacks, next_of, ops_at, outcome_at};
+ghost use Rattle.machine.specs.View.{state_of};
+ghost use Rattle.machine.specs.Words.{item_in};
+ghost use Rattle.run_model.specs.Fit.{HasOwnNumbers, IsAside};
+ghost use Rattle.run_model.specs.Making.{queue};
+ghost use Rattle.run_model.specs.Replies.{again, close, fail_found, is_outcome_of, on_call_failed, on_reply, retries_at, retry};
+ghost use Rattle.run_model.specs.State.{function_at, live_run, open_issue};
+
+use crate::Parts;
 use crate::making::{STEP, later};
 use crate::operations::Taken;
 use kinds::{After, Item, Op, Outcome, ReplyIn, StepHash, Steps, error_object};
@@ -8,9 +20,13 @@ use runs::Run;
 use sdk_reply::{delay, read_reply};
 use std::sync::ledger::Ledger;
 
-impl Machine {
+impl Parts {
     /// A call is open no more, and its cells are free. Gives the item that it was made for.
-    pub(crate) fn close(&mut self, call: u64) -> Result<Option<Item>, Memory> {
+    pub(crate) fn close(&mut self, call: u64) -> Result<Option<Item>, Memory>
+        requires held { IsHeld self.old }
+        ensures item { IfOk result (λ item. item ≡ item_in (open_issue call (state_of self.old))) }
+        ensures now { OnOk result (Becomes (close call (state_of self.old)) self.old self.new) }
+    {
         let Some(issue) = self.admission.close(call)? else {
             return Ok(None);
         };
@@ -26,7 +42,11 @@ impl Machine {
         call: u64,
         reply: &ReplyIn,
         steps: &mut Steps<L>,
-    ) -> Result<(), Memory> {
+    ) -> Result<(), Memory>
+        requires held { IsHeld self.old }
+        requires apart { HasOwnNumbers (state_of self.old) }
+        ensures { OnOk result (Becomes (on_reply call reply.now (state_of self.old)) self.old self.new) }
+    {
         let Some(item) = self.close(call)? else {
             return Ok(());
         };
@@ -43,7 +63,11 @@ impl Machine {
         &mut self,
         call: u64,
         steps: &mut Steps<L>,
-    ) -> Result<(), Memory> {
+    ) -> Result<(), Memory>
+        requires held { IsHeld self.old }
+        requires apart { HasOwnNumbers (state_of self.old) }
+        ensures { OnOk result (Becomes (on_call_failed call (state_of self.old)) self.old self.new) }
+    {
         self.fail_call(call, b"call failed", steps)
     }
 
@@ -53,7 +77,13 @@ impl Machine {
         call: u64,
         message: &[u8],
         steps: &mut Steps<L>,
-    ) -> Result<(), Memory> {
+    ) -> Result<(), Memory>
+        requires held { IsHeld self.old }
+        requires apart { HasOwnNumbers (state_of self.old) }
+        ensures { OnOk result (Becomes
+            (fail_found (open_issue call (state_of self.old)) (error_object message.now) (state_of self.old))
+            self.old self.new) }
+    {
         let Some(item) = self.close(call)? else {
             return Ok(());
         };
@@ -66,7 +96,13 @@ impl Machine {
         item: Item,
         outcome: Outcome,
         steps: &mut Steps<L>,
-    ) -> Result<(), Memory> {
+    ) -> Result<(), Memory>
+        requires held { IsHeld self.old }
+        requires aside { IsAside item (state_of self.old) }
+        ensures { OnOk result (Becomes
+            (outcome_at (live_run item.run (state_of self.old)) item outcome (state_of self.old))
+            self.old self.new) }
+    {
         match outcome {
             Outcome::Ended { output } => self.complete_run(item.run, output.as_slice()),
             Outcome::Ops {
@@ -89,7 +125,12 @@ impl Machine {
         after: After,
         message: &[u8],
         steps: &mut Steps<L>,
-    ) -> Result<(), Memory> {
+    ) -> Result<(), Memory>
+        requires held { IsHeld self.old }
+        requires aside { IsAside item (state_of self.old) }
+        ensures { OnOk result (Becomes
+            (retry item after (error_object message.now) (state_of self.old)) self.old self.new) }
+    {
         let error = error_object(self.alloc, message)?;
         self.retry(item, after, error.as_slice(), steps)
     }
@@ -102,7 +143,11 @@ impl Machine {
         after: After,
         error: &[u8],
         steps: &mut Steps<L>,
-    ) -> Result<(), Memory> {
+    ) -> Result<(), Memory>
+        requires held { IsHeld self.old }
+        requires aside { IsAside item (state_of self.old) }
+        ensures { OnOk result (Becomes (retry item after error.now (state_of self.old)) self.old self.new) }
+    {
         let run = item.run;
         match self.next_of(&item) {
             Next::Nothing => Ok(()),
@@ -112,7 +157,9 @@ impl Machine {
         }
     }
 
-    fn next_of(&self, item: &Item) -> Next {
+    fn next_of(&self, item: &Item) -> Next
+        ensures { result ≡ next_of (live_run item.now.run (state_of self.now)) item.now (state_of self.now) }
+    {
         let Some(run) = self.runs.live(item.run) else {
             return Next::Nothing;
         };
@@ -126,7 +173,9 @@ impl Machine {
     }
 
     /// How often a call of a function's version is made again.
-    pub(crate) fn retries(&self, version: u64) -> u8 {
+    pub(crate) fn retries(&self, version: u64) -> u8
+        ensures { result ≡ retries_at (function_at version (state_of self.now)) }
+    {
         match self.versions.get(version) {
             Some(entry) => entry.function.retries,
             None => 0,
@@ -134,7 +183,13 @@ impl Machine {
     }
 
     // The same item with the next attempt, due after the delay.
-    fn queue_again(&mut self, item: Item, after: After) -> Result<(), Memory> {
+    fn queue_again(&mut self, item: Item, after: After) -> Result<(), Memory>
+        requires held { IsHeld self.old }
+        requires aside { IsAside item (state_of self.old) }
+        requires attempts { item.attempt < 255 }
+        ensures { OnOk result (Becomes
+            (queue (again item after (state_of self.old)) (state_of self.old)) self.old self.new) }
+    {
         let due = later(self.moment, delay(item.attempt, &after, self.moment))?;
         self.admission.add(Item {
             attempt: item.attempt + 1,
@@ -152,7 +207,13 @@ impl Machine {
         no_retry: bool,
         after: After,
         steps: &mut Steps<L>,
-    ) -> Result<(), Memory> {
+    ) -> Result<(), Memory>
+        requires held { IsHeld self.old }
+        requires aside { IsAside item (state_of self.old) }
+        ensures { OnOk result (Becomes
+            (ops_at (live_run item.run (state_of self.old)) item ops no_retry after (state_of self.old))
+            self.old self.new) }
+    {
         if lacks_target(item.target.as_slice(), ops.as_slice()) {
             return self.retry_with(item, after, b"target missing", steps);
         }
@@ -167,7 +228,9 @@ impl Machine {
     }
 
     // Whether nothing would ever move a run.
-    fn is_idle(&self, number: u64) -> bool {
+    fn is_idle(&self, number: u64) -> bool
+        ensures { result ≡ idle_at (live_run number (state_of self.now)) (state_of self.now) }
+    {
         let Some(run) = self.runs.live(number) else {
             return false;
         };
@@ -188,7 +251,9 @@ enum Next {
 }
 
 /// Whether the step that an item is of is recorded.
-pub(crate) fn has_recorded(run: &Run, target: &[u8]) -> bool {
+pub(crate) fn has_recorded(run: &Run, target: &[u8]) -> bool
+    ensures { result ≡ is_recorded target.now run.now.steps }
+{
     match hash_of(target) {
         Some(hash) => run.is_recorded(&hash),
         None => false,
@@ -205,11 +270,15 @@ fn hash_of(target: &[u8]) -> Option<StepHash> {
 }
 
 // Whether a call was made for a step that the operations don't tell of.
-fn lacks_target(target: &[u8], ops: &[Op]) -> bool {
+fn lacks_target(target: &[u8], ops: &[Op]) -> bool
+    ensures { result ≡ lacks target.now ops.now }
+{
     target != STEP && !ops.iter().any(|op| is_outcome_of(target, op))
 }
 
-fn is_outcome_of(target: &[u8], op: &Op) -> bool {
+fn is_outcome_of(target: &[u8], op: &Op) -> bool
+    ensures { result ≡ is_outcome_of target.now op.now }
+{
     match op {
         Op::StepRun { hash, .. } | Op::StepError { hash, .. } => hash.as_slice() == target,
         Op::StepPlanned { .. }

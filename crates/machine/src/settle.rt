@@ -1,7 +1,13 @@
 // Calls are made while an item may be issued, the least by score and number first.
-use crate::Machine;
+ghost use Rattle.std.specs.Prelude.{◌≡◌, ◌++◌, Some, OnOk};
+ghost use Rattle.machine.specs.Held.{Becomes, IsHeld};
+ghost use Rattle.machine.specs.View.{state_of};
+ghost use Rattle.machine.specs.Words.{issued_at, said_at, with_outs};
+ghost use Rattle.run_model.specs.Settle.{item_at, next_issued, settle};
+
+use crate::Parts;
 use crate::results::copied;
-use crate::texts::Texts;
+use event_texts::Texts;
 use kinds::{Function, Item, Out, Steps};
 use lists::{Items, Memory};
 use runs::Run;
@@ -10,12 +16,19 @@ use std::alloc::Global;
 use std::sync::ledger::Ledger;
 use step_ids::run_id;
 
-impl Machine {
+impl Parts {
     pub(crate) fn settle<L: Ledger>(
         &mut self,
         outs: &mut Items<Out>,
         steps: &mut Steps<L>,
-    ) -> Result<(), Memory> {
+    ) -> Result<(), Memory>
+        requires held { IsHeld self.old }
+        requires now { self.old.admission.moment ≡ self.old.moment }
+        ensures state { OnOk result
+            (Becomes (settle (with_outs outs.old (state_of self.old))).state self.old self.new) }
+        ensures outs { OnOk result
+            (outs.new ≡ (settle (with_outs outs.old (state_of self.old))).outs) }
+    {
         while let Some(number) = self.admission.next(steps) {
             self.issue(number, outs)?;
         }
@@ -23,7 +36,14 @@ impl Machine {
     }
 
     // The call of an item is made.
-    fn issue(&mut self, number: u64, outs: &mut Items<Out>) -> Result<(), Memory> {
+    fn issue(&mut self, number: u64, outs: &mut Items<Out>) -> Result<(), Memory>
+        requires held { IsHeld self.old }
+        requires now { self.old.admission.moment ≡ self.old.moment }
+        requires next { next_issued (state_of self.old) ≡ Some number }
+        ensures state { OnOk result
+            (Becomes (issued_at number outs.old (state_of self.old)).state self.old self.new) }
+        ensures outs { OnOk result (outs.new ≡ (issued_at number outs.old (state_of self.old)).outs) }
+    {
         let Some(item) = self.admission.item(number) else {
             return Ok(());
         };
@@ -37,7 +57,10 @@ impl Machine {
         Ok(())
     }
 
-    fn say_call(&self, number: u64, call: u64, outs: &mut Items<Out>) -> Result<(), Memory> {
+    fn say_call(&self, number: u64, call: u64, outs: &mut Items<Out>) -> Result<(), Memory>
+        ensures { OnOk result
+            (outs.new ≡ outs.old ++ said_at (item_at number (state_of self.now)) call (state_of self.now)) }
+    {
         let Some(item) = self.admission.item(number) else {
             return Ok(());
         };

@@ -1,4 +1,11 @@
 // What can be looked at between two inputs.
+ghost use Rattle.std.specs.Prelude.{◌≡◌, IfOk};
+ghost use Rattle.std.specs.Option.{option_map};
+ghost use Rattle.machine.specs.Words.{runs_of, view_of};
+ghost use Rattle.run_model.specs.Ends.{id_at};
+ghost use Rattle.run_model.specs.Next.{next_moment, run_view, step_result, view_ended};
+ghost use Rattle.run_model.specs.State.{function_at};
+
 use crate::Machine;
 use kinds::{Numbers, RunStatus, StepHash};
 use lists::Memory;
@@ -20,13 +27,17 @@ impl Machine {
     /// When there is something to do next, in milliseconds since 1970: the least of the dues of what is awaited,
     /// the dues of items that are to come, and the moments at which throttles let due items start whose cells are
     /// free. Takes no memory.
-    pub fn next_moment(&self) -> Option<u64> {
-        sooner(self.next_due(), self.admission.next_item())
+    pub fn next_moment(&self) -> Option<u64>
+        ensures { result ≡ next_moment self.now }
+    {
+        sooner(self.parts.next_due(), self.parts.admission.next_item())
     }
 
     /// A run that has not ended, or is among the last thousand that have. Takes no memory.
-    pub fn run_view(&self, number: u64) -> Option<RunView<'_>> {
-        match self.runs.live(number) {
+    pub fn run_view(&self, number: u64) -> Option<RunView<'_>>
+        ensures { option_map view_of result ≡ run_view number self.now }
+    {
+        match self.parts.runs.live(number) {
             Some(run) => Some(RunView {
                 number,
                 moment: run.moment(),
@@ -38,15 +49,19 @@ impl Machine {
         }
     }
 
-    fn id_at(&self, version: u64) -> &[u8] {
-        match self.versions.get(version) {
+    fn id_at(&self, version: u64) -> &[u8]
+        ensures { result.now ≡ id_at (function_at version self.now) }
+    {
+        match self.parts.versions.get(version) {
             Some(entry) => entry.function.id.as_slice(),
             None => &[],
         }
     }
 
-    fn ended_view(&self, number: u64) -> Option<RunView<'_>> {
-        let ended = self.ended.get_last(number)?;
+    fn ended_view(&self, number: u64) -> Option<RunView<'_>>
+        ensures { option_map view_of result ≡ view_ended number self.now }
+    {
+        let ended = self.parts.ended.get_last(number)?;
         Some(RunView {
             number,
             moment: ended.moment,
@@ -57,22 +72,26 @@ impl Machine {
     }
 
     /// The result of a recorded step of a run that has not ended. Takes no memory.
-    pub fn step_result(&self, number: u64, hash: &StepHash) -> Option<&[u8]> {
-        self.runs.live(number)?.result_of(hash)
+    pub fn step_result(&self, number: u64, hash: &StepHash) -> Option<&[u8]>
+        ensures { option_map (λ text. text.now) result ≡ step_result number hash.now self.now }
+    {
+        self.parts.runs.live(number)?.result_of(hash)
     }
 
     /// The runs of an event that can be viewed, in order of number.
-    pub fn runs_of(&self, event: u64) -> Result<Numbers, Memory> {
-        let live = self.runs.of_event(event)?;
-        let ended = self.ended.of_event(event)?;
-        let mut runs = BTreeSet::new(self.alloc);
+    pub fn runs_of(&self, event: u64) -> Result<Numbers, Memory>
+        ensures { IfOk result (λ ns. ns ≡ runs_of event self.now) }
+    {
+        let live = self.parts.runs.of_event(event)?;
+        let ended = self.parts.ended.of_event(event)?;
+        let mut runs = BTreeSet::new(self.parts.alloc);
         for run in live {
             runs.insert(run)?;
         }
         for run in ended {
             runs.insert(run)?;
         }
-        let mut all = Numbers::new(self.alloc);
+        let mut all = Numbers::new(self.parts.alloc);
         for run in runs {
             all.push(run)?;
         }

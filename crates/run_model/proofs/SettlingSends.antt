@@ -21,11 +21,11 @@ use Rattle.run_model.proofs.SettlingLists.{all-in, find-filter, find-map, found-
 -- ## A call is made: marks of its run change, and nothing that is sent
 
 abbrev change : Item → Run → Run
-change i r = if i.run == r.number then called i r else r
+change i r = if i.run == r.number then called i.target r else r
 
 number-stays : (i : Item) (r : Run) → (change i r).number ≡ r.number
 number-stays i r =
-    elim (i.run == r.number) as (λ b. (cond b (called i r) r).number ≡ r.number) [ true ↦ refl | false ↦ refl ]
+    elim (i.run == r.number) as (λ b. (cond b (called i.target r) r).number ≡ r.number) [ true ↦ refl | false ↦ refl ]
 
 run-after : (run : ℕ) (i : Item) (s : State)
     → live_run run (issue i s) ≡ option_map (change i) (live_run run s)
@@ -35,7 +35,7 @@ run-after run i s =
 sends-changed : (i : Item) (s : State) (attempt steps : ℕ) (events body : List ℕ) (r : Run)
     → SendsRun s attempt steps events body r → SendsRun (issue i s) attempt steps events body (change i r)
 sends-changed i s attempt steps events body r h =
-    elim (i.run == r.number) as (λ b. SendsRun (issue i s) attempt steps events body (cond b (called i r) r)) [
+    elim (i.run == r.number) as (λ b. SendsRun (issue i s) attempt steps events body (cond b (called i.target r) r)) [
       | true ↦ record { counted = h.counted; named = h.named; sent = h.sent }
       | false ↦ record { counted = h.counted; named = h.named; sent = h.sent }
     ]

@@ -1,0 +1,12 @@
+pub mod Advance
+pub mod Counts
+pub mod Held
+pub mod Making
+pub mod Numbers
+pub mod Offers
+pub mod Operations
+pub mod Replies
+pub mod Versions
+pub mod View
+pub mod Windows
+pub mod Words

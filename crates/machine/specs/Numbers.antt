@@ -1,0 +1,43 @@
+-- Sets of numbers, by what is in them.
+use Rattle.std.specs.Prelude.{ℕ, ◌≡◌, Bool, true, List, [], ◌∷◌, Option, Some, None}
+use Rattle.std.specs.BTreeMap.{is_at}
+use Rattle.std.specs.List.{AllByRecursion, list_any}
+use Rattle.std.specs.List.Sorted.{IsStrictlySortedBy}
+use Rattle.std.specs.Ordering.{nat_cmp}
+
+abbrev pub has_number : List ℕ → ℕ → Bool
+has_number ns n = list_any (is_at (nat_cmp n)) ns
+
+-- all that was there is there still
+abbrev pub Keeps : List ℕ → List ℕ → Type 0
+Keeps old new = (n : ℕ) → has_number old n ≡ true → has_number new n ≡ true
+
+-- one number more is there
+pub record IsJoined (n : ℕ) (old new : List ℕ) : Type 0 where
+  pub there : has_number new n ≡ true
+  pub kept : Keeps old new
+
+-- these are there too
+pub record AreJoined (ns old new : List ℕ) : Type 0 where
+  pub there : AllByRecursion (λ n. has_number new n ≡ true) ns
+  pub kept : Keeps old new
+
+-- what a step touched, so that it may be named no more
+pub record Touched : Type 0 where
+  pub runs : List ℕ
+  pub events : List ℕ
+  pub versions : List ℕ
+
+abbrev pub nothing : Touched
+nothing = record { runs = []; events = []; versions = [] }
+
+-- what a run, its version and its events add to it
+pub record IsTouched (version : ℕ) (events : List ℕ) (old new : Touched) : Type 0 where
+  pub runs : new.runs ≡ old.runs
+  pub events : AreJoined events old.events new.events
+  pub versions : IsJoined version old.versions new.versions
+
+-- the least was taken out, or there was none
+abbrev pub IsRest : Option ℕ → List ℕ → List ℕ → Type 0
+IsRest None old new = (old ≡ []) × (new ≡ [])
+IsRest (Some n) old new = (old ≡ n ∷ new) × IsStrictlySortedBy nat_cmp old
