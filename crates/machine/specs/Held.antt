@@ -13,7 +13,7 @@ use Rattle.runs.specs.Runs.{run_number}
 use Rattle.run_model.specs.Fit.{IsFit}
 use Rattle.run_model.specs.Making.{is_item_of, step_target}
 use Rattle.run_model.specs.State.{State, Run, Issue, EventText, EndedRun, has_open_call, is_in}
-use Rattle.machine.specs.Numbers.{Touched, has_number}
+use Rattle.machine.specs.Numbers.{has_number}
 use Rattle.machine.specs.View.{state_of}
 use Rattle.machine.specs.declared.parts.Parts.{Parts}
 

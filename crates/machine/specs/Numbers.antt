@@ -4,6 +4,7 @@ use Rattle.std.specs.BTreeMap.{is_at}
 use Rattle.std.specs.List.{AllByRecursion, list_any}
 use Rattle.std.specs.List.Sorted.{IsStrictlySortedBy}
 use Rattle.std.specs.Ordering.{nat_cmp}
+use Rattle.machine.specs.declared.loose.Loose.{Loose}
 
 abbrev pub has_number : List ℕ → ℕ → Bool
 has_number ns n = list_any (is_at (nat_cmp n)) ns
@@ -22,17 +23,12 @@ pub record AreJoined (ns old new : List ℕ) : Type 0 where
   pub there : AllByRecursion (λ n. has_number new n ≡ true) ns
   pub kept : Keeps old new
 
--- what a step touched, so that it may be named no more
-pub record Touched : Type 0 where
-  pub runs : List ℕ
-  pub events : List ℕ
-  pub versions : List ℕ
-
-abbrev pub nothing : Touched
+-- nothing was touched
+abbrev pub nothing : Loose
 nothing = record { runs = []; events = []; versions = [] }
 
--- what a run, its version and its events add to it
-pub record IsTouched (version : ℕ) (events : List ℕ) (old new : Touched) : Type 0 where
+-- what a run's version and its events add to what a step touched
+pub record IsTouched (version : ℕ) (events : List ℕ) (old new : Loose) : Type 0 where
   pub runs : new.runs ≡ old.runs
   pub events : AreJoined events old.events new.events
   pub versions : IsJoined version old.versions new.versions

@@ -4,7 +4,6 @@ ghost use Rattle.machine.specs.Numbers.{AreJoined, IsTouched, nothing};
 use crate::numbers::NumberSet;
 use lists::Memory;
 use std::alloc::Global;
-use std::marker::Model;
 
 /// What this step touched, so that it may be named no more: only this is looked at when the step ends.
 #[derive(Drop)]
@@ -12,14 +11,6 @@ pub(crate) struct Loose {
     pub(crate) runs: NumberSet,
     pub(crate) events: NumberSet,
     pub(crate) versions: NumberSet,
-}
-
-impl Model for Loose {
-    ghost use Rattle.machine.specs.Numbers.{Touched};
-
-    ghost Value = { Touched };
-
-    ghost view = { λ l. record { runs = l.runs; events = l.events; versions = l.versions } };
 }
 
 impl Loose {

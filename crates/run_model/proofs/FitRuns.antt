@@ -77,9 +77,12 @@ fit-changed number f s keeps h =
     fit-live (changed number f s.live) s
     (all-changed (IsRunFit s.runs s.events s.versions) number f s.live keeps h.live_fit) h
 
-pub fit-want : (r : Run) (s : State) → IsFit s → IsFit (change_run r.number want s)
-fit-want r s h = fit-changed r.number want s
+pub fit-wanted : (number : ℕ) (s : State) → IsFit s → IsFit (change_run number want s)
+fit-wanted number s h = fit-changed number want s
     (λ q k. run-changed s.runs s.events s.versions q q.steps true q.planned q.started k) h
+
+pub fit-want : (r : Run) (s : State) → IsFit s → IsFit (change_run r.number want s)
+fit-want r s h = fit-wanted r.number s h
 
 pub fit-called : (i : Item) (s : State) → IsFit s → IsFit (change_run i.run (called i.target) s)
 fit-called i s h = fit-changed i.run (called i.target) s
@@ -102,11 +105,11 @@ pub fit-queue : (i : Item) (s : State) → IsItemFit s.entries i → IsFit s →
 fit-queue i s fits h =
     fit-items (insert_item i s.items) s (all-queued (IsItemFit s.entries) i s.items fits h.calls_fit.queued) h
 
-start-unless : (b : Bool) (start : Option Cell) → IsStart start → IsStart (unless b start)
+pub start-unless : (b : Bool) (start : Option Cell) → IsStart start → IsStart (unless b start)
 start-unless true start h = tt
 start-unless false start h = h
 
-fit-new : (r : Run) (target : List ℕ) (s : State) → IsStart r.start → IsFit s → IsFit (queue_new r target s)
+pub fit-new : (r : Run) (target : List ℕ) (s : State) → IsStart r.start → IsFit s → IsFit (queue_new r target s)
 fit-new r target s start h =
     fit-queue (new_item r target s) (record s { entries = s.entries + 1 })
     (record { number = omega arith; start = start-unless r.started r.start start }) (fit-entries s h)

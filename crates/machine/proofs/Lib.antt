@@ -1,0 +1,5 @@
+pub mod Changed
+pub mod HeldEvents
+pub mod HeldMaking
+pub mod HeldRecording
+pub mod Joined
