@@ -53,6 +53,10 @@ texts-below events texts h =
     all-weaker (λ (e : EventText). e.number ≤ events) (λ (e : EventText). e.number < events + 1) texts
     (λ e (low : e.number ≤ events). omega (arith, low)) h
 
+-- an event more
+abbrev pub with-text : Texts → ℕ → List ℕ → Texts
+with-text t number text = record t { texts = t.texts ++ (record { number = number; text = text }) ∷ [] }
+
 pub held-add_event : (m : Parts) (event : EventIn) (counts : Counts) (loose : Loose) (texts : Texts) (touched : List ℕ)
     → counts ≡ record m.counts { events = m.counts.events + 1 }
     → loose ≡ record m.loose { events = touched }

@@ -1,10 +1,11 @@
 -- Numbers that join a set.
-use Rattle.std.proofs.Common.{◌≡◌, ℕ, ◌==◌, Bool, true, false, cond, List, [], ◌∷◌, ◌++◌, refl, sym, ap, ◌∙◌, arith, subst, eqb-true}
+use Rattle.std.proofs.Common.{◌≡◌, ◌<◌, ◌↔◌, IfSome, IfNone, IsSome, All, Option, Some, None, length, ℕ, ◌==◌, Bool, true, false, cond, List, [], ◌∷◌, ◌++◌, refl, sym, ap, ◌∙◌, arith, subst, eqb-true}
 use Rattle.std.specs.BTreeMap.{is_at}
+use Rattle.std.specs.BTreeMap.Range.{IsLtBy}
 use Rattle.std.specs.List.{AllByRecursion}
 use Rattle.std.specs.Ordering.{nat_cmp}
 use Rattle.std.proofs.lemmas.Bool.Decides.{nat_tests}
-use Rattle.machine.specs.Numbers.{AreJoined, IsJoined, Keeps, has_number}
+use Rattle.machine.specs.Numbers.{AreJoined, IsJoined, IsRest, Keeps, has_number}
 
 abbrev Added : ℕ → List ℕ → List ℕ → Type 0
 Added n old new = (k : ℕ) → has_number new k ≡ cond (is_at (nat_cmp n) k) true (has_number old k)
@@ -27,12 +28,12 @@ pub all-kept : (ns old new : List ℕ) → Keeps old new → AllByRecursion (λ 
 all-kept [] old new kept h = tt
 all-kept (n ∷ ns) old new kept h = (kept n h.0, all-kept ns old new kept h.1)
 
-pub all-joined : (ns : List ℕ) (n : ℕ) (before old new : List ℕ) → AreJoined ns before old → IsJoined n old new
-    → AreJoined (ns ++ n ∷ []) before new
-all-joined ns n before old new h one = record {
+pub all-joined : (ns more : List ℕ) (n : ℕ) (before old new : List ℕ) → more ≡ ns ++ n ∷ []
+    → AreJoined ns before old → IsJoined n old new → AreJoined more before new
+all-joined ns more n before old new is h one = subst (λ ks. AreJoined ks before new) (sym is) (record {
   there = last ns (all-kept ns old new one.kept h.there);
   kept = λ k here. one.kept k (h.kept k here);
-}
+})
   where
     last : (ms : List ℕ) → AllByRecursion (λ k. has_number new k ≡ true) ms
         → AllByRecursion (λ k. has_number new k ≡ true) (ms ++ n ∷ [])
@@ -41,3 +42,14 @@ all-joined ns n before old new h one = record {
 
 pub none-joined : (old : List ℕ) → AreJoined [] old old
 none-joined old = record { there = tt; kept = λ k here. here }
+
+empty-by : (old : List ℕ) → (0 < length old → ⊥) → old ≡ []
+empty-by [] h = refl
+empty-by (n ∷ ns) h = absurd (h (omega arith))
+
+pub rest-by : (r : Option ℕ) (old new : List ℕ) → (IsSome r ↔ (0 < length old))
+    → IfSome r (λ n. old ≡ n ∷ new) → IfSome r (λ n. All (IsLtBy nat_cmp n) new)
+    → IfNone r (new ≡ old) → IsRest r old new
+rest-by (Some n) old new some removed above same = (removed, above)
+rest-by None old new some removed above same =
+    let none : old ≡ [] = empty-by old (λ more. some.1 more) in (none, same ∙ none)

@@ -1,8 +1,8 @@
 -- Sets of numbers, by what is in them.
-use Rattle.std.specs.Prelude.{ℕ, ◌≡◌, Bool, true, List, [], ◌∷◌, Option, Some, None}
+use Rattle.std.specs.Prelude.{ℕ, ◌≡◌, All, Bool, true, List, [], ◌∷◌, Option, Some, None}
 use Rattle.std.specs.BTreeMap.{is_at}
 use Rattle.std.specs.List.{AllByRecursion, list_any}
-use Rattle.std.specs.List.Sorted.{IsStrictlySortedBy}
+use Rattle.std.specs.BTreeMap.Range.{IsLtBy}
 use Rattle.std.specs.Ordering.{nat_cmp}
 use Rattle.machine.specs.declared.loose.Loose.{Loose}
 
@@ -28,12 +28,12 @@ abbrev pub nothing : Loose
 nothing = record { runs = []; events = []; versions = [] }
 
 -- what a run's version and its events add to what a step touched
-pub record IsTouched (version : ℕ) (events : List ℕ) (old new : Loose) : Type 0 where
+pub record IsTouched (version : ℕ) (named : List ℕ) (old new : Loose) : Type 0 where
   pub runs : new.runs ≡ old.runs
-  pub events : AreJoined events old.events new.events
+  pub events : AreJoined named old.events new.events
   pub versions : IsJoined version old.versions new.versions
 
 -- the least was taken out, or there was none
 abbrev pub IsRest : Option ℕ → List ℕ → List ℕ → Type 0
 IsRest None old new = (old ≡ []) × (new ≡ [])
-IsRest (Some n) old new = (old ≡ n ∷ new) × IsStrictlySortedBy nat_cmp old
+IsRest (Some n) old new = (old ≡ n ∷ new) × All (IsLtBy nat_cmp n) new
