@@ -1,5 +1,5 @@
 -- The parts after an item is queued.
-use Rattle.std.proofs.Common.{◌≡◌, ℕ, ◌+◌, ◌≤◌, ◌==◌, Bool, true, false, not, cond, ◌&&◌, ◌||◌, List, [], ◌∷◌, find, Option, Some, None, nat_lt, refl, sym, ap, ◌∙◌, arith, subst}
+use Rattle.std.proofs.Common.{◌≡◌, ℕ, ◌+◌, ◌≤◌, ◌==◌, Bool, true, false, not, cond, ◌&&◌, ◌||◌, List, [], ◌∷◌, find, Option, Some, None, Result, Ok, Err, OnOk, option_map, nat_lt, refl, sym, ap, ◌∙◌, arith, subst}
 use Rattle.std.specs.List.{AllByRecursion, list_any}
 use Rattle.std.proofs.lemmas.Bool.{cond-false}
 use Rattle.std.proofs.lemmas.Bool.Decides.{nat_tests}
@@ -16,6 +16,7 @@ use Rattle.run_model.proofs.Members.{in-all, in-found}
 use Rattle.machine.specs.Held.{AreWantsNoted, Becomes, IsHeld, is_left}
 use Rattle.machine.specs.Numbers as numbers
 use Rattle.machine.specs.View.{state_of}
+use Rattle.machine.specs.Words.{queue_at}
 use Rattle.machine.specs.declared.counts.Counts.{Counts}
 use Rattle.machine.specs.declared.parts.Parts.{Parts}
 
@@ -105,3 +106,43 @@ held-queue_new m r target counts a counted queued start h =
       };
       clock = refl;
     }))
+
+-- ## The item of a run that may not be there
+
+pub some-mapped : {X Y : Type 0} (f : X → Y) (found : Option X) (y : Y) → Some y ≡ option_map f found
+    → (x : X) × (found ≡ Some x) × (y ≡ f x)
+some-mapped f None y h = cc
+some-mapped f (Some x) y h = (x, refl, cc)
+
+abbrev pub IsNewItem : Parts → ℕ → List ℕ → Item → Type 0
+IsNewItem m run target item =
+    Some item ≡ option_map (λ r. new_item r target (state_of m)) (live_run run (state_of m))
+
+pub queued-fresh : (m : Parts) (run : ℕ) (target : List ℕ) (item : Item) → IsNewItem m run target item → IsHeld m
+    → find (has_number item.number) m.admission.items ≡ None
+queued-fresh m run target item is h =
+    let found = some-mapped (λ r. new_item r target (state_of m)) (live_run run (state_of m)) item is in
+    subst (λ (i : Item). find (has_number i.number) m.admission.items ≡ None) (sym found.2)
+    (fresh-number m.counts.entries m.admission.items h.fit.calls_fit.queued)
+
+pub queued-start : (m : Parts) (run : ℕ) (target : List ℕ) (item : Item) → IsNewItem m run target item → IsHeld m
+    → IsStart item.start
+queued-start m run target item is h =
+    let found = some-mapped (λ r. new_item r target (state_of m)) (live_run run (state_of m)) item is in
+    subst (λ (i : Item). IsStart i.start) (sym found.2) (start-new m run found.0 target found.1 h)
+
+pub held-queued : (m : Parts) (run : ℕ) (target : List ℕ) (item : Item) (counts : Counts) (a : Admission)
+    → IsNewItem m run target item → counts ≡ record m.counts { entries = m.counts.entries + 1 }
+    → a ≡ record m.admission { items = insert_item item m.admission.items } → IsHeld m
+    → Becomes (queue_at (live_run run (state_of m)) target (state_of m)) m
+    (record m { counts = counts; admission = a })
+held-queued m run target item counts a is counted queued h =
+    let found = some-mapped (λ r. new_item r target (state_of m)) (live_run run (state_of m)) item is in
+    subst (λ o. Becomes (queue_at o target (state_of m)) m (record m { counts = counts; admission = a })) (sym found.1)
+    (held-queue_new m found.0 target counts a counted
+    (queued ∙ ap (λ i. record m.admission { items = insert_item i m.admission.items }) found.2)
+    (start-live m run found.0 found.1 h) h)
+
+pub on-ok : {A E : Type 0} (r : Result A E) (P Q : Type 0) → (P → Q) → OnOk r P → OnOk r Q
+on-ok (Ok a) P Q f h = f h
+on-ok (Err e) P Q f h = tt

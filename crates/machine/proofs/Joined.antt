@@ -43,9 +43,9 @@ all-joined ns more n before old new is h one = subst (λ ks. AreJoined ks before
 pub none-joined : (old : List ℕ) → AreJoined [] old old
 none-joined old = record { there = tt; kept = λ k here. here }
 
-empty-by : (old : List ℕ) → (0 < length old → ⊥) → old ≡ []
+empty-by : (old : List ℕ) → (0 < length old → false ≡ true) → old ≡ []
 empty-by [] h = refl
-empty-by (n ∷ ns) h = absurd (h (omega arith))
+empty-by (n ∷ ns) h = let clash : false ≡ true = h (omega arith) in cc
 
 pub rest-by : (r : Option ℕ) (old new : List ℕ) → (IsSome r ↔ (0 < length old))
     → IfSome r (λ n. old ≡ n ∷ new) → IfSome r (λ n. All (IsLtBy nat_cmp n) new)

@@ -2,4 +2,5 @@ pub mod Changed
 pub mod HeldEvents
 pub mod HeldMaking
 pub mod HeldRecording
+pub mod HeldWords
 pub mod Joined
