@@ -1,5 +1,7 @@
 // How a run ends: what of it goes, what its parent records, and the event of a failed run.
 ghost use Rattle.std.specs.Prelude.{◌≡◌, IfOk, OnOk};
+ghost use Rattle.std.specs.Option.{option_map};
+ghost use Rattle.machine.specs.Ends.{ending_of};
 ghost use Rattle.machine.specs.Held.{Becomes, IsHeld};
 ghost use Rattle.machine.specs.View.{state_of};
 ghost use Rattle.machine.specs.Words.{cancel_at, complete_at, end_at, fail_at, failed_at, parent_at, raise_at, when_of};
@@ -23,6 +25,14 @@ const FAILED: &[u8] = b"inngest/function.failed";
 
 /// How the text of such an event begins.
 const FAILED_BEGUN: &[u8] = b"{\"name\":\"inngest/function.failed\",";
+
+/// What is looked up of a run that ends.
+#[derive(Drop)]
+struct Ending {
+    parent: Option<Parent>,
+    version: u64,
+    ended: EndedRun,
+}
 
 impl Parts {
     /// A run is completed with an output, within a reply.
@@ -76,15 +86,16 @@ impl Parts {
         ensures now { OnOk result (Becomes
             (end_at (live_run number (state_of self.old)) status (state_of self.old)) self.old self.new) }
     {
-        let Some(run) = self.runs.live(number) else {
+        let Some(Ending {
+            parent,
+            version,
+            ended,
+        }) = self.ending(number, status)?
+        else {
             return Ok(None);
         };
-        let parent = run.parent();
-        let version = run.version();
-        let events = run.events();
-        let ended = self.ended_run(run, status)?;
         self.loose.runs.insert(number)?;
-        self.loose.touch(version, events)?;
+        self.loose.touch(version, ended.events.as_slice())?;
         self.runs.end(number)?;
         self.admission.remove_run(number);
         self.sleeps.drop_run(number);
@@ -95,6 +106,20 @@ impl Parts {
             self.loose.runs.insert(out)?;
         }
         Ok(parent)
+    }
+
+    fn ending(&self, number: u64, status: RunStatus) -> Result<Option<Ending>, Memory>
+        ensures { IfOk result (λ e. e
+            ≡ option_map (ending_of status (state_of self.now)) (live_run number (state_of self.now))) }
+    {
+        let Some(run) = self.runs.live(number) else {
+            return Ok(None);
+        };
+        Ok(Some(Ending {
+            parent: run.parent(),
+            version: run.version(),
+            ended: self.ended_run(run, status)?,
+        }))
     }
 
     fn ended_run(&self, run: &Run, status: RunStatus) -> Result<EndedRun, Memory>

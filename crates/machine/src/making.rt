@@ -161,10 +161,11 @@ impl Parts {
         ensures now { OnOk result (Becomes (discover (state_of self.old)) self.old self.new) }
         ensures none { OnOk result (self.new.wanting ≡ []) }
     {
-        while let Some(run) = self.wanting.pop_first() {
+        while let Some(run) = self.wanting.first() {
             if self.wants(run) {
                 self.queue_new(run, STEP)?;
             }
+            self.wanting.pop_first();
         }
         Ok(())
     }

@@ -1,7 +1,5 @@
-ghost use Rattle.std.specs.Prelude.{◌≡◌, ◌∷◌, [], OnOk, IfSome};
-ghost use Rattle.std.specs.List.Sorted.{IsStrictlySortedBy};
-ghost use Rattle.std.specs.Option.{IfNone};
-ghost use Rattle.std.specs.Ordering.{nat_cmp};
+ghost use Rattle.std.specs.Prelude.{◌≡◌, [], OnOk};
+ghost use Rattle.std.specs.List.{slice_get};
 ghost use Rattle.machine.specs.Numbers.{AreJoined, IsJoined, IsRest};
 
 use lists::Memory;
@@ -47,6 +45,13 @@ impl NumberSet {
             self.insert(*number)?;
         }
         Ok(())
+    }
+
+    /// The least.
+    pub(crate) fn first(&self) -> Option<u64>
+        ensures { result ≡ slice_get self.now 0 }
+    {
+        self.numbers.first().copied()
     }
 
     /// Takes out the least.

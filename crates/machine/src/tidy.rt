@@ -25,10 +25,11 @@ impl Parts {
         ensures now { OnOk result (Becomes (without_closed (state_of self.old)) self.old self.new) }
         ensures none { OnOk result (self.new.loose.runs ≡ []) }
     {
-        while let Some(run) = self.loose.runs.pop_first() {
+        while let Some(run) = self.loose.runs.first() {
             if !self.admission.has_open_call(run) {
                 self.forget_run(run)?;
             }
+            self.loose.runs.pop_first();
         }
         Ok(())
     }
@@ -46,13 +47,15 @@ impl Parts {
         ensures now { OnOk result (Becomes (without_unnamed (state_of self.old)) self.old self.new) }
         ensures none { OnOk result (IsUntouched self.old self.new) }
     {
-        while let Some(event) = self.loose.events.pop_first() {
+        while let Some(event) = self.loose.events.first() {
             self.look_at_event(event)?;
+            self.loose.events.pop_first();
         }
-        while let Some(version) = self.loose.versions.pop_first() {
+        while let Some(version) = self.loose.versions.first() {
             if !self.runs.names_version(version) && !self.windows.names_version(version) {
                 self.versions.forget(version);
             }
+            self.loose.versions.pop_first();
         }
         Ok(())
     }

@@ -79,7 +79,7 @@ impl Versions {
     /// A current function by its id.
     pub(crate) fn of_id(&self, id: &[u8]) -> Option<&FunctionEntry>
         ensures { option_copied result
-            ≡ find (λ f. bytes_eq id f.function.id) self.now.current }
+            ≡ find (λ f. bytes_eq id.now f.function.id) self.now.current }
     {
         let current = self.current.as_slice();
         current.iter().find(|entry| id == entry.function.id.as_slice())
