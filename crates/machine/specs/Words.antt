@@ -33,10 +33,10 @@ abbrev pub queue_at : Option Run → List ℕ → State → State
 queue_at None target s = s
 queue_at (Some r) target s = queue_new r target s
 
--- the run wants to find out what comes next, and nothing does
-abbrev pub wants_at : Option Run → State → Bool
-wants_at None s = false
-wants_at (Some r) s = r.wanted && not (has_discovery s r.number)
+-- the run of this number wants to find out what comes next, and nothing does
+abbrev pub wants_at : ℕ → Option Run → State → Bool
+wants_at run None s = false
+wants_at run (Some r) s = r.wanted && not (has_discovery s run)
 
 -- a run of a function's version
 abbrev pub make_at : Option FunctionEntry → List ℕ → Option Parent → State → State

@@ -171,7 +171,7 @@ impl Parts {
     }
 
     fn wants(&self, run: u64) -> bool
-        ensures { result ≡ wants_at (live_run run (state_of self.now)) (state_of self.now) }
+        ensures { result ≡ wants_at run (live_run run (state_of self.now)) (state_of self.now) }
     {
         match self.runs.live(run) {
             Some(live) => live.is_wanted() && !self.has_discovery(run),

@@ -69,11 +69,17 @@ impl Versions {
     pub(crate) fn get(&self, version: u64) -> Option<&FunctionEntry>
         ensures { option_copied result ≡ version_at version self.now }
     {
-        let current = self.current.as_slice();
-        match current.iter().find(|entry| version == entry.version) {
+        match self.current_at(version) {
             Some(entry) => Some(entry),
             None => self.retired.get(&version),
         }
+    }
+
+    fn current_at(&self, version: u64) -> Option<&FunctionEntry>
+        ensures { option_copied result ≡ find (λ f. version == f.version) self.now.current }
+    {
+        let current = self.current.as_slice();
+        current.iter().find(|entry| version == entry.version)
     }
 
     /// A current function by its id.
