@@ -43,7 +43,7 @@ fewer true true b c h = cc
 fewer false true b c h = cc
 fewer w false b c h = h
 
-left-before : (i : Item) (items : List Item) (issues : List Issue) (r : Run)
+pub left-before : (i : Item) (items : List Item) (issues : List Issue) (r : Run)
     → is_left (insert_item i items) issues r ≡ true → is_left items issues r ≡ true
 left-before i items issues r h =
     fewer r.wanted (is_item_of r.number step_target i) (list_any (is_item_of r.number step_target) items)

@@ -1,9 +1,8 @@
 -- Numbers that join a set.
-use Rattle.std.proofs.Common.{◌≡◌, ◌<◌, ◌↔◌, IfSome, IfNone, IsSome, All, Option, Some, None, length, ℕ, ◌==◌, Bool, true, false, cond, List, [], ◌∷◌, ◌++◌, refl, sym, ap, ◌∙◌, arith, subst, eqb-true}
+use Rattle.std.proofs.Common.{◌≡◌, ◌<◌, ◌≤◌, ◌↔◌, IfSome, IfNone, IsSome, Option, Some, None, length, ℕ, ◌==◌, Bool, true, false, cond, List, [], ◌∷◌, ◌++◌, refl, sym, ap, ◌∙◌, arith, subst, eqb-true}
 use Rattle.std.specs.BTreeMap.{is_at}
-use Rattle.std.specs.BTreeMap.Range.{IsLtBy}
 use Rattle.std.specs.List.{AllByRecursion}
-use Rattle.std.specs.Ordering.{nat_cmp}
+use Rattle.std.specs.Ordering.{is_gt, nat_cmp}
 use Rattle.std.proofs.lemmas.Bool.Decides.{nat_tests}
 use Rattle.machine.specs.Numbers.{AreJoined, IsJoined, IsRest, Keeps, has_number}
 
@@ -48,8 +47,21 @@ empty-by [] h = refl
 empty-by (n ∷ ns) h = let clash : false ≡ true = h (omega arith) in cc
 
 pub rest-by : (r : Option ℕ) (old new : List ℕ) → (IsSome r ↔ (0 < length old))
-    → IfSome r (λ n. old ≡ n ∷ new) → IfSome r (λ n. All (IsLtBy nat_cmp n) new)
+    → IfSome r (λ n. old ≡ n ∷ new)
+    → IfSome r (λ n. (k : ℕ) → has_number old k ≡ true → is_gt (nat_cmp n k) ≡ false)
+    → IfSome r (λ n. (k : ℕ) → has_number new k ≡ cond (is_at (nat_cmp n) k) false (has_number old k))
     → IfNone r (new ≡ old) → IsRest r old new
-rest-by (Some n) old new some removed above same = (removed, above)
-rest-by None old new some removed above same =
+rest-by (Some n) old new some removed least left same = record {
+  first = removed;
+  least = λ k here. within n k (least k here);
+  left = left;
+}
+  where
+    within : (n k : ℕ) → is_gt (nat_cmp n k) ≡ false → n ≤ k
+    within n k h = grind (arith, nat_tests, h)
+rest-by None old new some removed least left same =
     let none : old ≡ [] = empty-by old (λ more. some.1 more) in (none, same ∙ none)
+
+pub left-by : (r : Option ℕ) (P Q : ℕ → Type 0) → ((n : ℕ) → P n → Q n) → IfSome r P → IfSome r Q
+left-by (Some n) P Q f h = f n h
+left-by None P Q f h = tt

@@ -1,4 +1,5 @@
 pub mod Changed
+pub mod Discovered
 pub mod Found
 pub mod HeldEvents
 pub mod HeldMaking

@@ -1,5 +1,6 @@
 pub mod Advance
 pub mod Counts
+pub mod Discovered
 pub mod Ends
 pub mod Held
 pub mod Making

@@ -1,8 +1,7 @@
 -- Sets of numbers, by what is in them.
-use Rattle.std.specs.Prelude.{ℕ, ◌≡◌, All, Bool, true, List, [], ◌∷◌, Option, Some, None}
+use Rattle.std.specs.Prelude.{ℕ, ◌≡◌, ◌≤◌, Bool, true, false, cond, List, [], ◌∷◌, Option, Some, None}
 use Rattle.std.specs.BTreeMap.{is_at}
 use Rattle.std.specs.List.{AllByRecursion, list_any}
-use Rattle.std.specs.BTreeMap.Range.{IsLtBy}
 use Rattle.std.specs.Ordering.{nat_cmp}
 use Rattle.machine.specs.declared.loose.Loose.{Loose}
 
@@ -33,7 +32,13 @@ pub record IsTouched (version : ℕ) (named : List ℕ) (old new : Loose) : Type
   pub events : AreJoined named old.events new.events
   pub versions : IsJoined version old.versions new.versions
 
+-- the least was taken out
+pub record IsTaken (n : ℕ) (old new : List ℕ) : Type 0 where
+  pub first : old ≡ n ∷ new
+  pub least : (k : ℕ) → has_number old k ≡ true → n ≤ k
+  pub left : (k : ℕ) → has_number new k ≡ cond (is_at (nat_cmp n) k) false (has_number old k)
+
 -- the least was taken out, or there was none
 abbrev pub IsRest : Option ℕ → List ℕ → List ℕ → Type 0
 IsRest None old new = (old ≡ []) × (new ≡ [])
-IsRest (Some n) old new = (old ≡ n ∷ new) × All (IsLtBy nat_cmp n) new
+IsRest (Some n) old new = IsTaken n old new

@@ -4,6 +4,7 @@ ghost use Rattle.std.specs.Option.{option_copied, option_map};
 ghost use Rattle.event_keys.specs.Expressions.{most_shift};
 ghost use Rattle.event_texts.specs.Texts.{text_at, text_or_none};
 ghost use Rattle.kinds.specs.Cells.{IsStart};
+ghost use Rattle.machine.specs.Discovered.{IsDiscovered, discover_at};
 ghost use Rattle.machine.specs.Held.{Becomes, IsHeld};
 ghost use Rattle.machine.specs.Making.{AreDraftsFit, add_drafts, draft_of, plan_of};
 ghost use Rattle.machine.specs.View.{state_of};
@@ -122,8 +123,9 @@ impl Parts {
     /// An item of a run is made now, for a planned step or to find out what comes next.
     pub(crate) fn queue_new(&mut self, run: u64, target: &[u8]) -> Result<(), Memory>
         requires held { IsHeld self.old }
-        ensures { OnOk result (Becomes
+        ensures now { OnOk result (Becomes
             (queue_at (live_run run (state_of self.old)) target.now (state_of self.old)) self.old self.new) }
+        ensures wanting { OnOk result (self.new.wanting ≡ self.old.wanting) }
     {
         let Some(item) = self.new_item(run, target)? else {
             return Ok(());
@@ -161,13 +163,34 @@ impl Parts {
         ensures now { OnOk result (Becomes (discover (state_of self.old)) self.old self.new) }
         ensures none { OnOk result (self.new.wanting ≡ []) }
     {
-        while let Some(run) = self.wanting.first() {
-            if self.wants(run) {
-                self.queue_new(run, STEP)?;
-            }
-            self.wanting.pop_first();
-        }
+        while self.discover_next()? {}
         Ok(())
+    }
+
+    // The first of those that may want to gets its item where it does, and says whether there was one.
+    fn discover_next(&mut self) -> Result<bool, Memory>
+        requires held { IsHeld self.old }
+        ensures { IfOk result (λ more. IsDiscovered more self.old self.new) }
+    {
+        let Some(run) = self.wanting.first() else {
+            return Ok(false);
+        };
+        self.discover_run(run)?;
+        self.wanting.pop_first();
+        Ok(true)
+    }
+
+    // The run of a number gets its item, where it wants to find out what comes next.
+    fn discover_run(&mut self, run: u64) -> Result<(), Memory>
+        requires held { IsHeld self.old }
+        ensures now { OnOk result (Becomes
+            (discover_at (live_run run (state_of self.old)) (state_of self.old)) self.old self.new) }
+        ensures wanting { OnOk result (self.new.wanting ≡ self.old.wanting) }
+    {
+        if !self.wants(run) {
+            return Ok(());
+        }
+        self.queue_new(run, STEP)
     }
 
     fn wants(&self, run: u64) -> bool

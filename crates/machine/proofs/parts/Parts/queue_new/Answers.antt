@@ -12,8 +12,8 @@ add-requires-clause-start c =
     queued-start c.args.self.now c.args.run c.args.target.now c.in-Some.item
     (sym c.in-Some.is ∙ c.in_ok-item.ensures) c.requires.held
 
-pub returns : goal.returns
-returns c =
+pub returns-clause-now : goal.returns-clause-now
+returns-clause-now c =
     on-ok c.add.result _ _
     (λ added. held-queued c.args.self.now c.args.run c.args.target.now c.in-Some.item c.next_entry.new.self
     c.add.new.self (sym c.in-Some.is ∙ c.in_ok-item.ensures) c.in_ok-next_entry.ensures.counted added
