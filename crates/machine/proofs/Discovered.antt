@@ -11,11 +11,12 @@ use Rattle.std.proofs.lemmas.Map.Keys.{sorted_head, sorted_tail}
 use Rattle.lists.proofs.Elements.{all-weaker}
 use Rattle.ordered.proofs.Apart.{at_number}
 use Rattle.runs.specs.Runs.{run_number}
-use Rattle.run_model.specs.Making.{discover, discover_all, discover_one, new_item, queue_new, step_target}
-use Rattle.run_model.specs.State.{State, Run}
+use Rattle.run_model.specs.Making.{discover, discover_all, discover_one, has_discovery, new_item, queue_new, step_target}
+use Rattle.run_model.specs.State.{State, Run, live_run}
 use Rattle.machine.specs.Discovered.{discover_at, noted}
 use Rattle.machine.specs.Held.{is_left}
 use Rattle.machine.specs.Numbers.{IsTaken, has_number}
+use Rattle.machine.specs.Words.{queue_at, wants_at}
 use Rattle.machine.proofs.HeldMaking.{left-before}
 
 abbrev left_in : State → Run → Bool
@@ -168,3 +169,33 @@ first-step k p q (r ∷ rs) s pk least parted sorted =
     step-by k p q r rs s pk least parted (above-head r rs (sorted_head nat_cmp r.number (map run_number rs) sorted))
     (first-step k p q rs s pk least parted (sorted_tail nat_cmp r.number (map run_number rs) sorted))
     (k == r.number) refl (nat_lt r.number k) refl
+
+-- ## A run by its number
+
+passes-by : {X : Type 0} (p : X → Bool) (y x : X) (rest : Option X) → (rest ≡ Some x → p x ≡ true)
+    → (b : Bool) → p y ≡ b → cond b (Some y) rest ≡ Some x → p x ≡ true
+passes-by p y x rest later true e h = let same : y ≡ x = cc in ap p (sym same) ∙ e
+passes-by p y x rest later false e h = later h
+
+found-passes : {X : Type 0} (p : X → Bool) (xs : List X) (x : X) → find p xs ≡ Some x → p x ≡ true
+found-passes p [] x h = cc
+found-passes p (y ∷ ys) x h =
+    passes-by p y x (find p ys) (λ there. found-passes p ys x there) (p y) refl h
+
+pub at-wanted : (run : ℕ) (found : Option Run) (s : State) → live_run run s ≡ found
+    → wants_at run found s ≡ true → discover_at found s ≡ queue_at found step_target s
+at-wanted run None s there h = cc
+at-wanted run (Some r) s there h =
+    let at : run ≡ r.number = eqb-true run r.number
+        (found-passes (λ (q : Run). run == q.number) s.live r there) in
+    ap (λ b. cond b (queue_new r step_target s) s)
+    (ap (λ n. r.wanted && not (has_discovery s n)) (sym at) ∙ h)
+
+pub at-unwanted : (run : ℕ) (found : Option Run) (s : State) → live_run run s ≡ found
+    → wants_at run found s ≡ false → discover_at found s ≡ s
+at-unwanted run None s there h = refl
+at-unwanted run (Some r) s there h =
+    let at : run ≡ r.number = eqb-true run r.number
+        (found-passes (λ (q : Run). run == q.number) s.live r there) in
+    ap (λ b. cond b (queue_new r step_target s) s)
+    (ap (λ n. r.wanted && not (has_discovery s n)) (sym at) ∙ h)

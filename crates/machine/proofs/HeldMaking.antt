@@ -32,7 +32,7 @@ any-by : (p : Item → Bool) (i j : Item) (is inserted : List Item) → list_any
 any-by p i j is inserted rest true = refl
 any-by p i j is inserted rest false = ap (λ b. p j || b) rest ∙ exchange (p i) (p j) (list_any p is)
 
-any-inserted : (p : Item → Bool) (i : Item) (is : List Item)
+pub any-inserted : (p : Item → Bool) (i : Item) (is : List Item)
     → list_any p (insert_item i is) ≡ (p i || list_any p is)
 any-inserted p i [] = refl
 any-inserted p i (j ∷ is) =

@@ -6,3 +6,4 @@ pub mod HeldMaking
 pub mod HeldRecording
 pub mod HeldWords
 pub mod Joined
+pub mod NextHeld

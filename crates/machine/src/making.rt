@@ -187,10 +187,11 @@ impl Parts {
             (discover_at (live_run run (state_of self.old)) (state_of self.old)) self.old self.new) }
         ensures wanting { OnOk result (self.new.wanting ≡ self.old.wanting) }
     {
-        if !self.wants(run) {
-            return Ok(());
+        if self.wants(run) {
+            self.queue_new(run, STEP)
+        } else {
+            Ok(())
         }
-        self.queue_new(run, STEP)
     }
 
     fn wants(&self, run: u64) -> bool
