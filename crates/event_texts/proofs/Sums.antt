@@ -99,7 +99,7 @@ more-by p q n x e es apart found off on same rest true t =
     let at : n ≡ e.number = eqb-true n e.number t in
     let is : e ≡ x = some-is (n == e.number) e x (text_at n es) t found in
     let left : total q es ≡ total p es = total-same p q es
-        (agrees n p q es same (none-differs n es (subst (λ m. text_at m es ≡ None) (sym at) apart))) in
+    (agrees n p q es same (none-differs n es (subst (λ m. text_at m es ≡ None) (sym at) apart))) in
     subst (λ y. One p q n x (y ∷ es)) (sym is)
     (more-here p q n x es (sym (at ∙ ap (λ (y : EventText). y.number) is)) off on left)
 more-by p q n x e es apart found off on same rest false f =

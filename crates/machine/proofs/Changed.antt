@@ -69,7 +69,7 @@ module _ (number : ℕ) (f : Run → Run) (keeps : KeepsNames f) where
     each = all-weaker
         (λ (e : EventText). has_number touched e.number ≡ false → IsEventRight live closing ws used e.number)
         (λ (e : EventText).
-            has_number touched e.number ≡ false → IsEventRight (changed number f live) closing ws used e.number)
+        has_number touched e.number ≡ false → IsEventRight (changed number f live) closing ws used e.number)
         texts
         (λ e right untouched. record {
           counted = (right untouched).counted ∙ sym (used-changed e.number live ws);
@@ -84,15 +84,15 @@ module _ (number : ℕ) (f : Run → Run) (keeps : KeepsNames f) where
   versions-changed live closing ws retired touched h = record {
     each = all-weaker
         (λ (e : FunctionEntry). has_number touched e.version ≡ false
-            → is_version_in_use live closing ws e.version ≡ true)
+        → is_version_in_use live closing ws e.version ≡ true)
         (λ (e : FunctionEntry). has_number touched e.version ≡ false
-            → is_version_in_use (changed number f live) closing ws e.version ≡ true)
+        → is_version_in_use (changed number f live) closing ws e.version ≡ true)
         retired
         (λ e right untouched.
-            ap (λ b. b || list_any (λ (r : Run). e.version == r.version) closing
-                || list_any (λ w. e.version == windows.version_of w) ws)
-            (any-changed (λ (r : Run). e.version == r.version) number f
-            (λ r. ap (λ v. e.version == v) (keeps.version r)) live) ∙ right untouched) h.each;
+        ap (λ b. b || list_any (λ (r : Run). e.version == r.version) closing
+        || list_any (λ w. e.version == windows.version_of w) ws)
+        (any-changed (λ (r : Run). e.version == r.version) number f
+        (λ r. ap (λ v. e.version == v) (keeps.version r)) live) ∙ right untouched) h.each;
   }
 
   pub ends-changed : (runs : ℕ) (live closing : List Run) (ended : List EndedRun) (issues : List Issue)
@@ -105,7 +105,7 @@ module _ (number : ℕ) (f : Run → Run) (keeps : KeepsNames f) where
     once = all-changed-by (λ (r : Run). find (has ended_number r.number) ended ≡ None)
         (λ (r : Run). find (has ended_number r.number) ended ≡ None) number f live
         (λ r none. ap (λ n. find (has ended_number n) ended)
-            (same-one (λ (q : Run). q.number) f keeps.number (number == r.number) r) ∙ none) h.once;
+        (same-one (λ (q : Run). q.number) f keeps.number (number == r.number) r) ∙ none) h.once;
   }
 
   pub order-changed : (live : List Run) → IsStrictlySortedBy nat_cmp (map run_number live)

@@ -187,7 +187,7 @@ pub at-wanted : (run : ℕ) (found : Option Run) (s : State) → live_run run s 
 at-wanted run None s there h = cc
 at-wanted run (Some r) s there h =
     let at : run ≡ r.number = eqb-true run r.number
-        (found-passes (λ (q : Run). run == q.number) s.live r there) in
+    (found-passes (λ (q : Run). run == q.number) s.live r there) in
     ap (λ b. cond b (queue_new r step_target s) s)
     (ap (λ n. r.wanted && not (has_discovery s n)) (sym at) ∙ h)
 
@@ -196,6 +196,6 @@ pub at-unwanted : (run : ℕ) (found : Option Run) (s : State) → live_run run 
 at-unwanted run None s there h = refl
 at-unwanted run (Some r) s there h =
     let at : run ≡ r.number = eqb-true run r.number
-        (found-passes (λ (q : Run). run == q.number) s.live r there) in
+    (found-passes (λ (q : Run). run == q.number) s.live r there) in
     ap (λ b. cond b (queue_new r step_target s) s)
     (ap (λ n. r.wanted && not (has_discovery s n)) (sym at) ∙ h)

@@ -69,13 +69,13 @@ held-add_event m event counts loose texts touched counted left joined added h =
     let s = add_event (event_with event (state_of m)) (state_of m) in
     subst (λ (c : Counts). Becomes s m (record m { counts = c; loose = loose; texts = texts })) (sym counted)
     (subst (λ (l : Loose). Becomes s m
-        (record m { counts = record m.counts { events = m.counts.events + 1 }; loose = l; texts = texts })) (sym left)
+    (record m { counts = record m.counts { events = m.counts.events + 1 }; loose = l; texts = texts })) (sym left)
     (subst (λ (t : Texts). Becomes s m
-        (record m {
-          counts = record m.counts { events = m.counts.events + 1 };
-          loose = record m.loose { events = touched };
-          texts = t;
-        })) (sym added)
+    (record m {
+      counts = record m.counts { events = m.counts.events + 1 };
+      loose = record m.loose { events = touched };
+      texts = t;
+    })) (sym added)
     (record {
       state = refl;
       held = record {

@@ -49,7 +49,7 @@ left-before i items issues r h =
     fewer r.wanted (is_item_of r.number step_target i) (list_any (is_item_of r.number step_target) items)
     (list_any (λ (c : Issue). is_item_of r.number step_target c.item) issues)
     (subst (λ b. (r.wanted && not (b || list_any (λ (c : Issue). is_item_of r.number step_target c.item) issues))
-        ≡ true) (any-inserted (is_item_of r.number step_target) i items) h)
+    ≡ true) (any-inserted (is_item_of r.number step_target) i items) h)
 
 pub wants-queued : (i : Item) (live : List Run) (items : List Item) (issues : List Issue) (wanting : List ℕ)
     → AreWantsNoted live items issues wanting → AreWantsNoted live (insert_item i items) issues wanting
@@ -92,7 +92,7 @@ held-queue_new m r target counts a counted queued start h =
     subst (λ (c : Counts). Becomes (queue_new r target (state_of m)) m (record m { counts = c; admission = a }))
     (sym counted)
     (subst (λ (b : Admission). Becomes (queue_new r target (state_of m)) m
-        (record m { counts = record m.counts { entries = m.counts.entries + 1 }; admission = b })) (sym queued)
+    (record m { counts = record m.counts { entries = m.counts.entries + 1 }; admission = b })) (sym queued)
     (record {
       state = refl;
       held = record {

@@ -59,13 +59,13 @@ pub held-record : (m : Parts) (run : ℕ) (name result wanting : List ℕ) (a : 
     (record m { admission = a; runs = rs; wanting = wanting })
 held-record m run name result wanting a rs items live closing joined h =
     subst (λ (b : Admission). Becomes (record_result run name result (state_of m)) m
-        (record m { admission = b; runs = rs; wanting = wanting })) (sym items)
+    (record m { admission = b; runs = rs; wanting = wanting })) (sym items)
     (subst (λ (l : RunLists). Becomes (record_result run name result (state_of m)) m
-        (record m {
-          admission = record m.admission { items = without_item run name m.admission.items };
-          runs = l;
-          wanting = wanting;
-        })) (sym (as-lists rs (changed run (record_in name result) m.runs.live) m.runs.closing live closing))
+    (record m {
+      admission = record m.admission { items = without_item run name m.admission.items };
+      runs = l;
+      wanting = wanting;
+    })) (sym (as-lists rs (changed run (record_in name result) m.runs.live) m.runs.closing live closing))
     (held-recorded m run name result wanting joined h))
 
 held-wanted : (m : Parts) (run : ℕ) (wanting : List ℕ) → IsJoined run m.wanting wanting → IsHeld m

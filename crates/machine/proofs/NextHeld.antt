@@ -61,10 +61,10 @@ settled-rest k r rest s rs above h =
     all-both (λ (q : Run). r.number < q.number)
     (λ (q : Run). (k == q.number) ≡ true → left_in (discover_at rest s) q ≡ false)
     (λ (q : Run). (k == q.number) ≡ true
-        → left_in (discover_at (cond (k == r.number) (Some r) rest) s) q ≡ false) rs
+    → left_in (discover_at (cond (k == r.number) (Some r) rest) s) q ≡ false) rs
     (λ q low settled same.
-        ap (λ o. left_in (discover_at o s) q)
-        (cond-false (k == r.number) (Some r) rest (apart k r.number q.number low same)) ∙ settled same) above h
+    ap (λ o. left_in (discover_at o s) q)
+    (cond-false (k == r.number) (Some r) rest (apart k r.number q.number low same)) ∙ settled same) above h
 
 settled-head : (k : ℕ) (r : Run) (rest : Option Run) (s : State) → (k == r.number) ≡ true
     → left_in (discover_at (cond (k == r.number) (Some r) rest) s) r ≡ false
@@ -127,10 +127,10 @@ taken-next m d k new taken same b h =
     let s = state_of m in
     let live : d.runs.live ≡ m.runs.live = ap (λ (t : State). t.live) b.state ∙ live-same (live_run k s) s in
     let settled : Settled k (state_of d) d.runs.live =
-        subst (λ rs. Settled k (state_of d) rs) (sym live)
-        (subst (λ t. Settled k t m.runs.live) (sym b.state) (settled-all k m.runs.live s h.wants.ordered)) in
+    subst (λ rs. Settled k (state_of d) rs) (sym live)
+    (subst (λ t. Settled k t m.runs.live) (sym b.state) (settled-all k m.runs.live s h.wants.ordered)) in
     let noted_before : AreWantsNoted d.runs.live d.admission.items d.admission.issues m.wanting =
-        subst (AreWantsNoted d.runs.live d.admission.items d.admission.issues) same b.held.wants in
+    subst (AreWantsNoted d.runs.live d.admission.items d.admission.issues) same b.held.wants in
     record {
       same = ap (λ rs. discover_all (noted new rs) (state_of d)) live
           ∙ ap (discover_all (noted new m.runs.live)) b.state

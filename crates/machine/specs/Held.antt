@@ -24,7 +24,7 @@ abbrev pub is_left : List Item → List Issue → Run → Bool
 is_left items issues r =
     r.wanted
     && not (list_any (is_item_of r.number step_target) items
-        || list_any (λ (i : Issue). is_item_of r.number step_target i.item) issues)
+    || list_any (λ (i : Issue). is_item_of r.number step_target i.item) issues)
 
 -- runs stand in order of number, and those that are left are noted
 pub record AreWantsNoted (live : List Run) (items : List Item) (issues : List Issue) (wanting : List ℕ)
@@ -75,7 +75,7 @@ pub record AreEndsRight (runs : ℕ) (live closing : List Run) (ended : List End
     (touched : List ℕ) : Type 0 where
   pub closing_open : AllByRecursion (λ (r : Run). IsClosing issues touched r.number) closing
   pub ended_open :
-    AllByRecursion (λ (e : EndedRun). IsClosing issues touched e.run) (take (length ended - 1000) ended)
+      AllByRecursion (λ (e : EndedRun). IsClosing issues touched e.run) (take (length ended - 1000) ended)
   pub given : AllByRecursion (λ (e : EndedRun). e.run ≤ runs) ended
   pub once : AllByRecursion (λ (r : Run). find (has ended_number r.number) ended ≡ None) live
 

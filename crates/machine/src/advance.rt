@@ -94,11 +94,26 @@ impl Parts {
         requires held { IsHeld self.now }
         ensures { result ≡ option_map next_by (least (timed (state_of self.now))) }
     {
-        let sleep = self.sleeps.first().map(|due| next_of(due, Timed::Sleep(due.number)));
-        let wait = self.waits.first().map(|due| next_of(due, Timed::Wait(due.number)));
-        let invocation = self.invocations.first().map(|due| next_of(due, Timed::Invocation(due.number)));
-        let window = self.windows.first().map(|due| next_of(due, Timed::Window(due.number)));
-        let rule = self.rules.first().map(|due| next_of(due, Timed::Rule(due.number)));
+        let sleep = self
+            .sleeps
+            .first()
+            .map(|due| next_of(due, Timed::Sleep(due.number)));
+        let wait = self
+            .waits
+            .first()
+            .map(|due| next_of(due, Timed::Wait(due.number)));
+        let invocation = self
+            .invocations
+            .first()
+            .map(|due| next_of(due, Timed::Invocation(due.number)));
+        let window = self
+            .windows
+            .first()
+            .map(|due| next_of(due, Timed::Window(due.number)));
+        let rule = self
+            .rules
+            .first()
+            .map(|due| next_of(due, Timed::Rule(due.number)));
         let limit = self.admission.first_limit().map(|limit| Next {
             due: limit.due,
             number: limit.number,

@@ -86,11 +86,13 @@ impl Parts {
         ensures now { OnOk result (Becomes
             (end_at (live_run number (state_of self.old)) status (state_of self.old)) self.old self.new) }
     {
-        let Some(Ending {
-            parent,
-            version,
-            ended,
-        }) = self.ending(number, status)?
+        let Some(
+            Ending {
+                parent,
+                version,
+                ended,
+            },
+        ) = self.ending(number, status)?
         else {
             return Ok(None);
         };

@@ -128,7 +128,7 @@ impl Parts {
         requires held { IsHeld self.old }
         ensures { OnOk result (Becomes
             (wake (when_of discovery) (data_result (text_or_none (text_at event self.old.texts.texts)))
-                wait (state_of self.old)) self.old self.new) }
+            wait (state_of self.old)) self.old self.new) }
     {
         let Some(waiting) = self.waits.remove(wait) else {
             return Ok(());

@@ -14,7 +14,7 @@ use crate::Parts;
 use crate::making::later;
 use crate::results::error_result;
 use awaited::Invocation;
-use json_text::{Kind, Node, Tree, JsonFault};
+use json_text::{JsonFault, Kind, Node, Tree};
 use kinds::{EventIn, Numbers, Parent, Pending, StepHash, Time, error_object};
 use lists::{Bytes, Memory};
 use runs::Naming;

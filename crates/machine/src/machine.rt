@@ -108,7 +108,11 @@ impl Machine {
 
     // The bytes that are kept: of the events that runs and windows name, of the results of runs, and of remembered ids.
     fn kept(&self) -> u64 {
-        let named = self.parts.texts.bytes().saturating_add(self.parts.runs.results());
+        let named = self
+            .parts
+            .texts
+            .bytes()
+            .saturating_add(self.parts.runs.results());
         named.saturating_add(self.parts.seen.weight())
     }
 

@@ -211,12 +211,7 @@ impl Parts {
 }
 
 // What a run of a function has that is made at a moment, and whose first event has this text.
-fn plan_of(
-    alloc: Global,
-    entry: &FunctionEntry,
-    text: &[u8],
-    moment: u64,
-) -> Result<Plan, Memory>
+fn plan_of(alloc: Global, entry: &FunctionEntry, text: &[u8], moment: u64) -> Result<Plan, Memory>
     ensures { IfOk result (λ plan. plan ≡ plan_of entry.now text.now moment) }
 {
     let event = ReadEvent::read(alloc, text)?;

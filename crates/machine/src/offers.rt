@@ -25,7 +25,9 @@ enum Offer {
     /// The function isn't triggered.
     Nothing,
     /// A run of its own, of this version.
-    Run { version: u64 },
+    Run {
+        version: u64,
+    },
     /// A window of this version, rule and value.
     Window {
         version: u64,
@@ -36,11 +38,7 @@ enum Offer {
 
 impl Parts {
     /// Offers an event to the current functions in order of version.
-    pub(crate) fn offer_to_all(
-        &mut self,
-        number: u64,
-        name: &Bytes,
-    ) -> Result<(), Memory>
+    pub(crate) fn offer_to_all(&mut self, number: u64, name: &Bytes) -> Result<(), Memory>
         requires held { IsHeld self.old }
         requires given { number ≤ self.old.counts.events }
         ensures { OnOk result (Becomes (offer_to_all self.old.versions.current
@@ -54,12 +52,7 @@ impl Parts {
     }
 
     // What becomes of an event at a current function.
-    fn offer_at(
-        &self,
-        place: usize,
-        number: u64,
-        name: &Bytes,
-    ) -> Result<Offer, Memory>
+    fn offer_at(&self, place: usize, number: u64, name: &Bytes) -> Result<Offer, Memory>
         ensures { IfOk result (IsOfferAt (slice_get self.now.versions.current place)
             (event_at number name.now (state_of self.now))) }
     {
@@ -69,12 +62,7 @@ impl Parts {
         }
     }
 
-    fn offer(
-        &self,
-        entry: &FunctionEntry,
-        number: u64,
-        name: &Bytes,
-    ) -> Result<Offer, Memory>
+    fn offer(&self, entry: &FunctionEntry, number: u64, name: &Bytes) -> Result<Offer, Memory>
         ensures { IfOk result
             (IsOffer entry.now (event_at number name.now (state_of self.now))) }
     {
@@ -94,11 +82,7 @@ impl Parts {
         }
     }
 
-    fn take_offer(
-        &mut self,
-        offer: Offer,
-        event: u64,
-    ) -> Result<(), Memory>
+    fn take_offer(&mut self, offer: Offer, event: u64) -> Result<(), Memory>
         requires held { IsHeld self.old }
         requires given { event ≤ self.old.counts.events }
         requires right { IsOfferRight (state_of self.old) offer }
@@ -177,11 +161,7 @@ fn is_triggered(
 }
 
 // An absent condition is true, and the text isn't read for it.
-fn holds(
-    alloc: Global,
-    cond: Option<&Expr>,
-    text: &[u8],
-) -> Result<bool, Memory>
+fn holds(alloc: Global, cond: Option<&Expr>, text: &[u8]) -> Result<bool, Memory>
     ensures { IfOk result (λ b. b ≡ holds_over (option_copied cond.entry) text.now) }
 {
     match cond {
@@ -210,11 +190,7 @@ fn window_rule(function: &Function) -> Option<WindowRule>
 }
 
 // The value of the key by which a function gathers events.
-fn window_value(
-    alloc: Global,
-    function: &Function,
-    text: &[u8],
-) -> Result<Bytes, Memory>
+fn window_value(alloc: Global, function: &Function, text: &[u8]) -> Result<Bytes, Memory>
     ensures { IfOk result (λ value. value ≡ value_by (window_rule_of function.now) text.now) }
 {
     match window_key(function) {

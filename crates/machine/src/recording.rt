@@ -47,12 +47,7 @@ impl Parts {
     }
 
     /// A step of a run reports its result. Where the name is new, its queued item goes.
-    pub(crate) fn keep(
-        &mut self,
-        run: u64,
-        hash: &StepHash,
-        text: Bytes,
-    ) -> Result<Naming, Memory>
+    pub(crate) fn keep(&mut self, run: u64, hash: &StepHash, text: Bytes) -> Result<Naming, Memory>
         requires held { IsHeld self.old }
         ensures named { IfOk result (λ n.
             n ≡ naming_in (keep_in hash.now text) (live_run run (state_of self.old))) }

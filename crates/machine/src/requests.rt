@@ -33,11 +33,7 @@ impl Parts {
     }
 
     // A repeated event is answered with the number of the first, and changes nothing.
-    fn on_event<L: Ledger>(
-        &mut self,
-        event: &EventIn,
-        steps: &mut Steps<L>,
-    ) -> Result<u64, Memory>
+    fn on_event<L: Ledger>(&mut self, event: &EventIn, steps: &mut Steps<L>) -> Result<u64, Memory>
         requires held { IsHeld self.old }
         ensures number { IfOk result (λ n. n ≡ number_for event.now (state_of self.old)) }
         ensures state { OnOk result

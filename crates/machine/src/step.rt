@@ -11,10 +11,10 @@ ghost use Rattle.run_model.specs.Machine.{Accepts, act, is_changed, registered_a
 ghost use Rattle.run_model.specs.Requests.{cancel_found, on_events};
 ghost use Rattle.run_model.specs.State.{live_run};
 
-use crate::{Machine, Parts};
 use crate::machine::LAST_MOMENT;
 use crate::recording::Discovery;
 use crate::replies::has_recorded;
+use crate::{Machine, Parts};
 use kinds::{App, EventIn, Input, Item, Out, Steps, ids_answer};
 use lists::{Bytes, Items, Memory};
 use std::alloc::Global;
@@ -39,11 +39,7 @@ impl Machine {
 }
 
 impl Parts {
-    fn step<L: Ledger>(
-        &mut self,
-        input: Input,
-        steps: &mut Steps<L>,
-    ) -> Result<Items<Out>, Memory>
+    fn step<L: Ledger>(&mut self, input: Input, steps: &mut Steps<L>) -> Result<Items<Out>, Memory>
         requires rest { IsAtRest self.old }
         requires accepted { Accepts (state_of self.old) input }
         requires ranges { IsInRange input }

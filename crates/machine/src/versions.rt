@@ -88,7 +88,9 @@ impl Versions {
             ≡ find (λ f. bytes_eq id.now f.function.id) self.now.current }
     {
         let current = self.current.as_slice();
-        current.iter().find(|entry| id == entry.function.id.as_slice())
+        current
+            .iter()
+            .find(|entry| id == entry.function.id.as_slice())
     }
 
     /// The functions of an application take the place of those that it had, which are retired. Want of memory spends

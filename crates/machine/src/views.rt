@@ -42,7 +42,11 @@ impl Machine {
                 number,
                 moment: run.moment(),
                 function: self.id_at(run.version()),
-                status: if run.has_started() { RunStatus::Running } else { RunStatus::Queued },
+                status: if run.has_started() {
+                    RunStatus::Running
+                } else {
+                    RunStatus::Queued
+                },
                 events: run.events(),
             }),
             None => self.ended_view(number),

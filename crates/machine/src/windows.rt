@@ -62,7 +62,9 @@ impl WindowSet {
     pub(crate) fn names(&self, event: u64) -> bool
         ensures { result ≡ list_any (λ w. is_in event (events_of w)) self.now }
     {
-        self.windows.entries().any(|window| has_event(window, event))
+        self.windows
+            .entries()
+            .any(|window| has_event(window, event))
     }
 
     /// Whether a window is of the function version.
@@ -109,7 +111,10 @@ impl WindowSet {
         ensures ok { OnOk result
             (self.new ≡ after_offer rule.now version value.now event moment number self.old) }
     {
-        match self.windows.offer(version, rule, value, event, moment, number)? {
+        match self
+            .windows
+            .offer(version, rule, value, event, moment, number)?
+        {
             Offered::Waits { number: taken, .. } => {
                 if taken == number {
                     Ok(Joined::Opened)
@@ -134,9 +139,16 @@ fn is_of(window: &Window, version: u64, value: &Bytes) -> bool
     ensures { result ≡ is_of version value.now window.now }
 {
     match window {
-        Window::Debounce { version: v, value: w, .. } | Window::Batch { version: v, value: w, .. } => {
-            version == *v && *value == *w
+        Window::Debounce {
+            version: v,
+            value: w,
+            ..
         }
+        | Window::Batch {
+            version: v,
+            value: w,
+            ..
+        } => { version == *v && *value == *w }
     }
 }
 

@@ -14,7 +14,7 @@ pub invariant_of-self-2 : goal.invariant_of-self-2
 invariant_of-self-2 c =
     let x : EventText = record { number = c.args.number; text = c.args.text } in
     let below = subst (λ (t : Texts). AllByRecursion (λ (e : EventText). e.number < c.args.number) t.texts)
-        (sym c.self.view_is) c.requires.below in
+    (sym c.self.view_is) c.requires.below in
     subst (λ es. IsSummed es c.self.inside.counted.keys c.self.inside.bytes)
     (sym (c.in_ok-put.ensures.ok ∙ insert-last x c.self.inside.texts below))
     (summed-last x c.self.inside.texts c.self.inside.counted.keys c.self.inside.bytes below c.self.invariant)
@@ -23,7 +23,7 @@ pub returns-clause-ok : goal.returns-clause-ok
 returns-clause-ok c =
     let x : EventText = record { number = c.args.number; text = c.args.text } in
     let below = subst (λ (t : Texts). AllByRecursion (λ (e : EventText). e.number < c.args.number) t.texts)
-        (sym c.self.view_is) c.requires.below in
+    (sym c.self.view_is) c.requires.below in
     ap (λ es. record { texts = es; counted = c.self.inside.counted.keys })
     (c.in_ok-put.ensures.ok ∙ insert-last x c.self.inside.texts below)
     ∙ ap (λ (t : Texts). record t { texts = t.texts ++ x ∷ [] }) c.self.view_is

@@ -13,5 +13,5 @@ returns-clause-now c =
     c.in_ok-number.ensures.counted refl
     (subst (λ n. IsJoined n m.loose.events c.insert.new.self) c.in_ok-number.ensures.number c.in_ok-insert.ensures)
     (c.in_ok-add.ensures.ok ∙ ap (λ t. with-text m.texts c.in_ok-number.number t) c.in_ok-text.ensures
-        ∙ ap (λ n. with-text m.texts n (event_text n m.moment c.args.event.now)) c.in_ok-number.ensures.number)
+    ∙ ap (λ n. with-text m.texts n (event_text n m.moment c.args.event.now)) c.in_ok-number.ensures.number)
     c.requires.held

@@ -9,6 +9,6 @@ returns-in_ok-insert-in-New-clause-now c =
     held-record m c.args.run c.args.hash.now c.args.text c.insert.new.self c.remove_step.new.self c.keep.new.self
     c.remove_step.ensures
     (c.in_ok-naming.ensures.live
-        ∙ ap (λ n. if_new n (changed c.args.run (record_in c.args.hash.now c.args.text) m.runs.live) m.runs.live)
-        c.in-New.is)
+    ∙ ap (λ n. if_new n (changed c.args.run (record_in c.args.hash.now c.args.text) m.runs.live) m.runs.live)
+    c.in-New.is)
     c.keep.ensures.closing c.in_ok-insert-in-New.ensures c.requires.held

@@ -9,6 +9,6 @@ returns c =
     held-record m c.args.run c.args.hash.now c.args.text c.insert.new.self c.remove_step.new.self c.wake.new.self
     c.remove_step.ensures
     (c.in_ok-wake.ensures.live
-        ∙ ap (λ b. cond b (changed c.args.run (record_in c.args.hash.now c.args.text) m.runs.live) m.runs.live)
-        (c.in_ok-wake.ensures.woken ∙ c.requires.pending))
+    ∙ ap (λ b. cond b (changed c.args.run (record_in c.args.hash.now c.args.text) m.runs.live) m.runs.live)
+    (c.in_ok-wake.ensures.woken ∙ c.requires.pending))
     c.wake.ensures.closing c.in_ok-insert.ensures c.requires.held
