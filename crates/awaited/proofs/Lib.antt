@@ -1,5 +1,6 @@
 mod BehindLemmas
 mod BesideLemmas
-mod FilledLemmas
+mod NameLemmas
 mod RuleLemmas
 mod StepLemmas
+mod WindowLemmas

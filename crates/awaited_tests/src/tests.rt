@@ -1,11 +1,14 @@
 // Each call of each part.
-ghost use Rattle.std.specs.Prelude.{◌≡◌, ◌<◌, IfOk};
+ghost use Rattle.std.specs.Prelude.{◌≡◌, ◌<◌, [], IfOk};
 ghost use Rattle.kinds.specs.Stores.{rule_number, wait_number};
+ghost use Rattle.kinds.specs.Windows.{IsRule};
 ghost use Rattle.awaited.specs.Entries.{sleep_number, invocation_number};
 
-use crate::{Invocation, Invocations, Rules, Sleep, Sleeps, Waits};
+use awaited::{Invocation, Invocations, Placed, Rules, Sleep, Sleeps, Waits, WindowSet};
 use expr::Expr;
-use kinds::{Due, Event, Matcher, Parent, PathMatcher, Rule, StepHash, Steps, Wait};
+use kinds::{
+    Batch, Due, Event, Matcher, Parent, PathMatcher, Rule, StepHash, Steps, Wait, WindowRule,
+};
 use lists::{Bytes, Memory};
 use std::alloc::Global;
 use std::marker::Brand;
@@ -215,5 +218,64 @@ fn met_by_none<L: Ledger>(alloc: Global, blank: Blank) -> Result<usize, Memory>
 #[test]
 fn an_event_meets_none(rt: HostRuntime) -> Result<(), Fail> {
     assert_eq!(rt; met_by_none::<Brand>(rt.alloc(), Blank::new(1))?, 0);
+    Ok(())
+}
+
+/// Whether a window was open before, and how many events made one full.
+fn told(placed: Placed) -> (bool, usize) {
+    match placed {
+        Placed::Opened => (false, 0),
+        Placed::Joined => (true, 0),
+        Placed::Full { events, was_open } => (was_open, events.len()),
+    }
+}
+
+/// Events wait for up to five seconds.
+fn batch(size: u8) -> WindowRule
+    ensures { IsRule result }
+{
+    WindowRule::Batch(Batch {
+        size,
+        timeout: 5_000,
+        key: None,
+    })
+}
+
+/// Event 7 is offered to no windows.
+fn offered(alloc: Global, windows: &mut WindowSet, size: u8) -> Result<(bool, usize), Memory>
+    requires { windows.old ≡ [] }
+{
+    let placed = windows.offer(1, &batch(size), &Bytes::new(alloc), 7, 1_000, 3)?;
+    Ok(told(placed))
+}
+
+/// Whether event 7, event 3, and version 1 are named, and a window of the version is open.
+fn named(alloc: Global, windows: &WindowSet) -> (bool, bool, bool, bool) {
+    let key = (1, Bytes::new(alloc));
+    (
+        windows.names(7),
+        windows.names(3),
+        windows.names_version(1),
+        windows.find(&key).is_some(),
+    )
+}
+
+#[test]
+fn a_window_is_open_till_its_due(rt: HostRuntime) -> Result<(), Fail> {
+    let mut windows = WindowSet::empty(rt.alloc());
+    assert_eq!(rt; offered(rt.alloc(), &mut windows, 2)?, (false, 0));
+    assert_eq!(rt; windows.first(), due(6_000, 3, 0));
+    assert_eq!(rt; named(rt.alloc(), &windows), (true, false, true, true));
+    assert!(rt; windows.fire(3).is_some());
+    assert_eq!(rt; named(rt.alloc(), &windows), (false, false, false, false));
+    assert_eq!(rt; windows.entries().count(), 0);
+    Ok(())
+}
+
+#[test]
+fn a_full_window_is_over(rt: HostRuntime) -> Result<(), Fail> {
+    let mut windows = WindowSet::empty(rt.alloc());
+    assert_eq!(rt; offered(rt.alloc(), &mut windows, 1)?, (false, 1));
+    assert_eq!(rt; windows.entries().count(), 0);
     Ok(())
 }
