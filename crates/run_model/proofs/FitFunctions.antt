@@ -17,7 +17,7 @@ use Rattle.run_model.proofs.Members.{in-all, in-back, in-either, in-filter, in-f
 
 -- ## Where a function of the lists after a registration comes from
 
-in-inserted : (f g : FunctionEntry) (fs : List FunctionEntry) → IsIn g (insert_by version_of f fs)
+pub in-inserted : (f g : FunctionEntry) (fs : List FunctionEntry) → IsIn g (insert_by version_of f fs)
     → (f ≡ g) ⊎ IsIn g fs
 in-inserted f g [] (inl same) = inl same
 in-inserted f g [] (inr there) = absurd there
@@ -37,7 +37,7 @@ in-inserted f g (e ∷ es) there =
     behind (inl same) next = inr (inl same)
     behind (inr more) next = moved (next more)
 
-in-inserted_all : (g : FunctionEntry) (fs es : List FunctionEntry) → IsIn g (insert_all fs es)
+pub in-inserted_all : (g : FunctionEntry) (fs es : List FunctionEntry) → IsIn g (insert_all fs es)
     → IsIn g fs ⊎ IsIn g es
 in-inserted_all g [] es there = inr there
 in-inserted_all g (f ∷ fs) es there = back (in-inserted_all g fs (insert_by version_of f es) there)
@@ -50,13 +50,13 @@ in-inserted_all g (f ∷ fs) es there = back (in-inserted_all g fs (insert_by ve
     back (inl more) = inl (inr more)
     back (inr more) = own (in-inserted f g es more)
 
-abbrev new_functions : App → State → List FunctionEntry
+abbrev pub new_functions : App → State → List FunctionEntry
 new_functions app s = numbered app.name s.versions (new_in app s.functions)
 
-abbrev IsOldOrNew : App → State → FunctionEntry → Type 0
+abbrev pub IsOldOrNew : App → State → FunctionEntry → Type 0
 IsOldOrNew app s f = IsIn f (s.functions ++ s.retired) ⊎ IsIn f (new_functions app s)
 
-old-or-new : (app : App) (s : State) (f : FunctionEntry)
+pub old-or-new : (app : App) (s : State) (f : FunctionEntry)
     → IsIn f ((with_functions app s).functions ++ (with_functions app s).retired) → IsOldOrNew app s f
 unfolding registered
 old-or-new app s f there =
@@ -84,12 +84,12 @@ old-or-new app s f there =
 -- ## New functions
 
 -- a version that wasn't given before, and a function of the list
-record IsNew (versions most : ℕ) (fs : List Function) (f : FunctionEntry) : Type 0 where
-  over : versions < f.version
-  low : f.version ≤ most
-  given : IsIn f.function fs
+pub record IsNew (versions most : ℕ) (fs : List Function) (f : FunctionEntry) : Type 0 where
+  pub over : versions < f.version
+  pub low : f.version ≤ most
+  pub given : IsIn f.function fs
 
-is-new : (name : List ℕ) (versions : ℕ) (fs : List Function) (f : FunctionEntry)
+pub is-new : (name : List ℕ) (versions : ℕ) (fs : List Function) (f : FunctionEntry)
     → IsIn f (numbered name versions fs) → IsNew versions (versions + length fs) fs f
 is-new name versions [] f there = absurd there
 is-new name versions (g ∷ gs) f (inl same) =

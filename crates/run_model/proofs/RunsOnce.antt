@@ -31,13 +31,14 @@ use Rattle.run_model.specs.State.{State, Run, EndedRun, empty, has_open_call, la
 use Rattle.run_model.proofs.Apart.{differs, pairs-last}
 use Rattle.run_model.proofs.FitWindows.{not-true, pairs-filter}
 use Rattle.run_model.proofs.Kept.{IsLive, Keeps, freely, run_from, started, window_after, with_offer}
+use Rattle.run_model.proofs.KeptReplies.{dropping}
 use Rattle.run_model.proofs.KeptSteps.{KeepsSteps, kept-step}
 use Rattle.run_model.proofs.Limits.{map-last}
 use Rattle.run_model.proofs.Members.{in-all, in-found}
 
 -- ## Numbers of lists that change
 
-numbers-changed : (number : ℕ) (f : Run → Run) (rs : List Run) → ((r : Run) → (f r).number ≡ r.number)
+pub numbers-changed : (number : ℕ) (f : Run → Run) (rs : List Run) → ((r : Run) → (f r).number ≡ r.number)
     → numbers_of (changed number f rs) ≡ numbers_of rs
 numbers-changed number f [] same = refl
 numbers-changed number f (r ∷ rs) same =
@@ -190,7 +191,7 @@ in-map part x [] there = absurd there
 in-map part x (y ∷ ys) (inl same) = inl (ap part same)
 in-map part x (y ∷ ys) (inr there) = inr (in-map part x ys there)
 
-map-take : {X : Type 0} (part : X → ℕ) (n : ℕ) (xs : List X) → map part (take n xs) ≡ take n (map part xs)
+pub map-take : {X : Type 0} (part : X → ℕ) (n : ℕ) (xs : List X) → map part (take n xs) ≡ take n (map part xs)
 map-take part zero [] = refl
 map-take part zero (x ∷ xs) = refl
 map-take part (suc n) [] = refl
@@ -206,7 +207,7 @@ map-both : {X : Type 0} (part : X → ℕ) (xs ys : List X) → map part (xs ++ 
 map-both part [] ys = refl
 map-both part (x ∷ xs) ys = ap (λ ns. part x ∷ ns) (map-both part xs ys)
 
-map-last_or : {X : Type 0} (part : X → ℕ) (test : ℕ → Bool) (most : ℕ) (xs : List X)
+pub map-last_or : {X : Type 0} (part : X → ℕ) (test : ℕ → Bool) (most : ℕ) (xs : List X)
     → map part (last_or (λ x. test (part x)) most xs) ≡ last_or test most (map part xs)
 map-last_or part test most xs =
     let n : ℕ = length xs - most in
@@ -298,14 +299,14 @@ keeps-once = freely RunsStandOnce (record {
 
 once-steps : (bound : ℕ) → KeepsSteps bound (λ input. Unit {0}) (λ is s. RunsStandOnce s)
 once-steps bound = record {
-  calls = record {
+  calls = dropping (λ is s. RunsStandOnce s) (record {
     runs = λ is. keeps-once;
     closes = λ i s there h. h;
     reopens = λ s h. h;
     drops = λ i is s h. h;
     retries = λ i is a r s live new h. h;
     requeues = λ i is r s live new h. h;
-  };
+  });
   counts = λ s h. h;
   moves = λ t next s low e h. h;
   arrives = λ t s low on before h. h;

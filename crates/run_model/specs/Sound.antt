@@ -32,7 +32,8 @@ use Rattle.event_keys.specs.Buckets.{bucket_of}
 use Rattle.event_keys.specs.Cells.{cells_of, start_of}
 use Rattle.run_model.specs.Advance.{due_of, timed}
 use Rattle.run_model.specs.Ends.{first_text, is_invocation_of}
-use Rattle.run_model.specs.Making.{first_of, is_item_of, score_of, step_target, unless}
+use Rattle.run_model.specs.Making.{first_of, has_discovery, is_item_of, score_of, step_target, unless}
+use Rattle.run_model.specs.Recording.{is_pending_in}
 use Rattle.run_model.specs.Settle.{next_issued}
 use Rattle.run_model.specs.State.{State, Run, Issue, EventText, Sleep, Waiting, Invocation, EndedRun, function_at, has_open_call, is_in, is_named, is_version_named, issue_entries, live_run, text_of}
 
@@ -168,6 +169,13 @@ pub record AwaitsOnce (s : State) : Type 0 where
   pub waits : AllByRecursion (λ (e : Waiting). IsPendingIn s e.wait.run e.hash) s.waits
   pub invocations : AllByRecursion (λ (e : Invocation). IsPendingIn s e.run e.hash) s.invocations
 
+-- the end of a sleep, a wait or an invocation is recorded: its run has not ended, and its step waits still
+pub record Wakes (s : State) : Type 0 where
+  pub sleeps : AllByRecursion (λ (e : Sleep). is_pending_in e.hash (live_run e.run s) ≡ true) s.sleeps
+  pub waits : AllByRecursion (λ (e : Waiting). is_pending_in e.hash (live_run e.wait.run s) ≡ true) s.waits
+  pub invocations :
+      AllByRecursion (λ (e : Invocation). is_pending_in e.hash (live_run e.run s) ≡ true) s.invocations
+
 -- the queued items and the open calls with a target
 abbrev pub items_for : State → ℕ → List ℕ → List Item
 items_for s run target = filter (is_item_of run target) (s.items ++ map (λ (i : Issue). i.item) s.issues)
@@ -228,9 +236,13 @@ abbrev pub HasCells : State → Run → FunctionEntry → Type 0
 HasCells s r f =
     (r.cells ≡ cells_of f.function (first_text r s)) × (r.start ≡ start_of f.function (first_text r s))
 
-pub record IsFixed (s : State) : Type 0 where
+-- each run and each window names an event
+pub record HasEvents (s : State) : Type 0 where
   pub runs : AllByRecursion (λ (r : Run). 0 < length r.events) (all_runs s)
   pub windows : AllByRecursion (λ w. 0 < length (windows.events_of w)) s.windows
+
+pub record IsFixed (s : State) : Type 0 where
+  pub named : HasEvents s
   pub cells : AllByRecursion (λ (r : Run). IfSome (function_at r.version s) (HasCells s r)) (all_runs s)
 
 -- ## Numbers of one count
@@ -284,6 +296,20 @@ pub record Invokes (s : State) : Type 0 where
   pub children : AllByRecursion (λ i. is_child s i ≡ true) s.invocations
 
 -- ## Ids and windows
+
+-- a remembered id is of an event that was numbered, not after the moment, and still tells a repeated event
+pub record IsSeen (s : State) (e : SeenEntry) : Type 0 where
+  pub numbered : e.number ≤ s.events
+  pub dated : e.moment ≤ s.moment
+  pub remembered : is_remembered s.moment e ≡ true
+
+abbrev pub StandsApart : SeenEntry → SeenEntry → Type 0
+StandsApart e later = (e.number < later.number) × (e.id ≢ later.id)
+
+-- remembered ids stand by number, and no two are equal
+pub record RemembersOnce (s : State) : Type 0 where
+  pub entries : AllByRecursion (IsSeen s) s.seen
+  pub apart : ArePairwise StandsApart s.seen
 
 pub record AreUnique (s : State) : Type 0 where
   pub seen : AreApart (λ (e : SeenEntry). e.id) s.seen
@@ -346,6 +372,34 @@ pub record IsSound (s : State) : Type 0 where
   pub invocations : Invokes s
   pub unique : AreUnique s
   pub windows : HasWindows s
+  pub limits : KeepLimits [] (issue_entries s)
+  pub settled : next_issued s ≡ None
+
+-- ## What is proved of them
+
+-- Of each state that is reached, whatever inputs there were, this is a law: the first, third, fourth, sixth, eighth,
+-- tenth, twelfth, thirteenth, sixteenth, nineteenth and twentieth condition, and parts of others: what is there is
+-- named, and once; wanted runs, events of runs and windows, and remembered ids. Where functions are in range, the
+-- eleventh and the eighteenth are laws, and so is the ninth while fewer than 2^64 entries were numbered; where no
+-- registration names an id twice, so is the seventeenth. Open are that what is named is there (second), calls of
+-- planned steps (fifth), that no run has two items or calls that find out (seventh), and the fourteenth; of the
+-- fifteenth only items that find out are left out.
+pub record IsReached (s : State) : Type 0 where
+  pub numbered : IsNumbered s
+  pub kept : KeepsNamed s
+  pub once : StandsOnce s
+  pub recorded : AllByRecursion RecordsOnce s.live
+  pub pending : AwaitsOnce s
+  pub wakes : Wakes s
+  pub room : AllByRecursion (λ (r : Run). names r.steps ≤ most_names) (all_runs s)
+  pub wanted : AllByRecursion (λ (r : Run). r.wanted ≡ true → has_discovery s r.number ≡ true) s.live
+  pub going : AllByRecursion (λ r. can_go_on s r ≡ true) s.live
+  pub dated : IsDated s
+  pub named : HasEvents s
+  pub apart : ArePairwise (λ n later. n ≢ later) (entry_numbers s)
+  pub of_live : AreOfLive s
+  pub invocations_held : Invokes s
+  pub remembered : RemembersOnce s
   pub limits : KeepLimits [] (issue_entries s)
   pub settled : next_issued s ≡ None
 
