@@ -23,6 +23,3 @@ pub use cell::cell_value;
 pub use evaluate::{eval, eval_term, node_value};
 pub use fault::EvalFault;
 pub use value::Value;
-
-#[cfg(test)]
-mod tests;

@@ -15,6 +15,3 @@ mod token;
 pub use fault::ParseFault;
 pub use laws::{exact, parsed, places};
 pub use parser::parse;
-
-#[cfg(test)]
-mod tests;

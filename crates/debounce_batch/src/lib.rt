@@ -9,6 +9,3 @@ mod windows;
 
 pub use entries::Entries;
 pub use windows::Windows;
-
-#[cfg(test)]
-mod tests;

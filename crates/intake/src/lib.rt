@@ -18,6 +18,3 @@ pub use laws::plain_texts_stay;
 pub use seen::Seen;
 pub use timeline::Entries;
 pub use written::event_text;
-
-#[cfg(test)]
-mod tests;

@@ -31,6 +31,3 @@ pub use laws::{equal_values_have_equal_texts, numbers_are_numbers, one_value};
 pub use members::MemberNodes;
 pub use text::put_text;
 pub use tree::{Node, Tree};
-
-#[cfg(test)]
-mod tests;

@@ -22,6 +22,3 @@ mod window;
 pub use app::read_app;
 pub use fault::RegisterFault;
 pub use member::Member;
-
-#[cfg(test)]
-mod tests;

@@ -26,8 +26,3 @@ pub use side::Side;
 pub use silent_rig::SilentRig;
 pub use sink::{Sink, WriteFailed};
 pub use source::{ReadFailed, Source};
-
-#[cfg(test)]
-mod disk_tests;
-#[cfg(test)]
-mod tests;

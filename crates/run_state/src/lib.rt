@@ -11,6 +11,3 @@ pub use active::{Active, Noted};
 pub use ended::Ended;
 pub use entries::Entries;
 pub use fresh::Fresh;
-
-#[cfg(test)]
-mod tests;

@@ -11,6 +11,3 @@ mod room;
 pub use body::call_text;
 pub use head::head_text;
 pub use parts::{CallParts, CallText};
-
-#[cfg(test)]
-mod tests;

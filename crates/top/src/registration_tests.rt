@@ -1,5 +1,5 @@
 use crate::Status;
-use crate::tests::check;
+use crate::tests::{check, walk};
 use std::alloc::Global;
 use std::test::Fail;
 
@@ -17,75 +17,33 @@ fn line(alloc: Global, app: &str, functions: &str) -> Result<String, Fail> {
     Ok(format!(in alloc; "0 REGISTER {{\"appName\":\"{app}\",\"functions\":[{functions}]}}\n")?)
 }
 
+/// Scripts, with what each prints, and `done` or the number of the line at fault. A `|` is the end of a line.
+const WRITTEN: &str =
+    r#"0 REGISTER {"appName":"a","url":"http://127.0.0.1:9/api","functions":[{"id":"a-f","name":"f","triggers":[{"event":"x","expression":"event.data.u =="}],"steps":{"step":{"runtime":{"url":"http://127.0.0.1:9/api?fnId=a-f&stepId=step"}}}}]}| => answer 400 {"error":"bad expression","function":0,"member":"triggers","at":15,"status":400}|end inputs=0 live=0 moment=0| => done
+0 REGISTER {"url":"http://localhost:3000/api/inngest","deployType":"ping","framework":"express","appName":"shop","functions":[{"id":"shop-order-paid","name":"Order paid","triggers":[{"event":"shop/order.paid"}],"steps":{"step":{"id":"step","name":"step","runtime":{"type":"http","url":"http://localhost:3000/api/inngest?fnId=shop-order-paid&stepId=step"},"retries":{"attempts":3}}},"concurrency":[{"limit":5,"key":"event.data.accountId"}]}],"v":"0.1"}| => answer 200 {"ok":true,"modified":true}|end inputs=1 live=0 moment=0| => done
+// The same again, and another order.
+0 REGISTER {"appName":"a","functions":[{"id":"f","triggers":[{"event":"x"}],"steps":{"step":{"runtime":{"url":"http://127.0.0.1:9/api"}}}},{"id":"g","triggers":[{"event":"x"}],"steps":{"step":{"runtime":{"url":"http://127.0.0.1:9/api"}}}}]}|0 REGISTER {"appName":"a","functions":[{"id":"f","triggers":[{"event":"x"}],"steps":{"step":{"runtime":{"url":"http://127.0.0.1:9/api"}}}},{"id":"g","triggers":[{"event":"x"}],"steps":{"step":{"runtime":{"url":"http://127.0.0.1:9/api"}}}}]}|0 REGISTER {"appName":"a","functions":[{"id":"g","triggers":[{"event":"x"}],"steps":{"step":{"runtime":{"url":"http://127.0.0.1:9/api"}}}},{"id":"f","triggers":[{"event":"x"}],"steps":{"step":{"runtime":{"url":"http://127.0.0.1:9/api"}}}}]}| => answer 200 {"ok":true,"modified":true}|answer 200 {"ok":true,"modified":false}|answer 200 {"ok":true,"modified":false}|end inputs=3 live=0 moment=0| => done
+// Another function of the id, and the first again.
+0 REGISTER {"appName":"a","functions":[{"id":"f","triggers":[{"event":"x"}],"steps":{"step":{"runtime":{"url":"http://127.0.0.1:9/api"}}}}]}|0 REGISTER {"appName":"a","functions":[{"id":"f","triggers":[{"event":"x"}],"steps":{"step":{"runtime":{"url":"http://127.0.0.1:9/api"}}},"concurrency":1}]}|0 REGISTER {"appName":"a","functions":[{"id":"f","triggers":[{"event":"x"}],"steps":{"step":{"runtime":{"url":"http://127.0.0.1:9/api"}}}}]}| => answer 200 {"ok":true,"modified":true}|answer 200 {"ok":true,"modified":true}|answer 200 {"ok":true,"modified":true}|end inputs=3 live=0 moment=0| => done
+// One that is no longer named, and then is.
+0 REGISTER {"appName":"a","functions":[{"id":"f","triggers":[{"event":"x"}],"steps":{"step":{"runtime":{"url":"http://127.0.0.1:9/api"}}}}]}|0 REGISTER {"appName":"a","functions":[]}|0 REGISTER {"appName":"a","functions":[{"id":"f","triggers":[{"event":"x"}],"steps":{"step":{"runtime":{"url":"http://127.0.0.1:9/api"}}}}]}| => answer 200 {"ok":true,"modified":true}|answer 200 {"ok":true,"modified":true}|answer 200 {"ok":true,"modified":true}|end inputs=3 live=0 moment=0| => done
+// An equal function of another application is taken over, and taken back.
+0 REGISTER {"appName":"a","functions":[{"id":"f","triggers":[{"event":"x"}],"steps":{"step":{"runtime":{"url":"http://127.0.0.1:9/api"}}}}]}|0 REGISTER {"appName":"b","functions":[{"id":"f","triggers":[{"event":"x"}],"steps":{"step":{"runtime":{"url":"http://127.0.0.1:9/api"}}}}]}|0 REGISTER {"appName":"a","functions":[{"id":"f","triggers":[{"event":"x"}],"steps":{"step":{"runtime":{"url":"http://127.0.0.1:9/api"}}}}]}| => answer 200 {"ok":true,"modified":true}|answer 200 {"ok":true,"modified":true}|answer 200 {"ok":true,"modified":true}|end inputs=3 live=0 moment=0| => done
+// The functions of another application stay where no id of theirs is taken.
+0 REGISTER {"appName":"a","functions":[{"id":"f","triggers":[{"event":"x"}],"steps":{"step":{"runtime":{"url":"http://127.0.0.1:9/api"}}}}]}|0 REGISTER {"appName":"b","functions":[{"id":"g","triggers":[{"event":"x"}],"steps":{"step":{"runtime":{"url":"http://127.0.0.1:9/api"}}}}]}|0 REGISTER {"appName":"a","functions":[{"id":"f","triggers":[{"event":"x"}],"steps":{"step":{"runtime":{"url":"http://127.0.0.1:9/api"}}}}]}| => answer 200 {"ok":true,"modified":true}|answer 200 {"ok":true,"modified":true}|answer 200 {"ok":true,"modified":false}|end inputs=3 live=0 moment=0| => done
+// A body that is refused changes nothing, and one is needed.
+7 REGISTER {|7 REGISTER []|7 REGISTER {}|7 REGISTER {"appName":"a"}| => answer 400 {"error":"not json","status":400}|answer 400 {"error":"not json","status":400}|answer 400 {"error":"no app name","status":400}|answer 400 {"error":"no functions","status":400}|end inputs=0 live=0 moment=0| => done
+// Events may come before a registration, and after one that was refused.
+1 EVENT x i|2 REGISTER {"functions":[]}|3 EVENT x i|4 REGISTER {"appName":"a","functions":[]}| => answer 200 {"ids":["evt-1"],"status":200}|answer 400 {"error":"no app name","status":400}|answer 200 {"ids":["evt-1"],"status":200}|answer 200 {"ok":true,"modified":false}|end inputs=3 live=0 moment=4| => done
+0 REGISTER | => answer 400 {"error":"not json","status":400}|end inputs=0 live=0 moment=0| => done
+0 REGISTER| => script fault in line 1| => 1
+0 REGISTER {"appName":"a","functions":[]}||1 EVENT x i| => answer 200 {"ok":true,"modified":false}|script fault in line 3| => 3
+0 REGISTER {"appName":"a","functions":[]}||1 EVENTS [| => answer 200 {"ok":true,"modified":false}|script fault in line 3| => 3
+"#;
+
 #[test]
 fn registrations_as_written(rt: HostRuntime) -> Result<(), Fail> {
-    let table: [(&[u8], &str); 10] = [
-        (
-            b"0 REGISTER {\"appName\":\"a\",\"url\":\"http://127.0.0.1:9/api\",\"functions\":[{\"id\":\"a-f\",\"name\":\"f\",\"triggers\":[{\"event\":\"x\",\"expression\":\"event.data.u ==\"}],\"steps\":{\"step\":{\"runtime\":{\"url\":\"http://127.0.0.1:9/api?fnId=a-f&stepId=step\"}}}}]}\n",
-            "answer 400 {\"error\":\"bad expression\",\"function\":0,\"member\":\"triggers\",\"at\":15,\"status\":400}\nend inputs=0 live=0 moment=0\n",
-        ),
-        (
-            b"0 REGISTER {\"url\":\"http://localhost:3000/api/inngest\",\"deployType\":\"ping\",\"framework\":\"express\",\"appName\":\"shop\",\"functions\":[{\"id\":\"shop-order-paid\",\"name\":\"Order paid\",\"triggers\":[{\"event\":\"shop/order.paid\"}],\"steps\":{\"step\":{\"id\":\"step\",\"name\":\"step\",\"runtime\":{\"type\":\"http\",\"url\":\"http://localhost:3000/api/inngest?fnId=shop-order-paid&stepId=step\"},\"retries\":{\"attempts\":3}}},\"concurrency\":[{\"limit\":5,\"key\":\"event.data.accountId\"}]}],\"v\":\"0.1\"}\n",
-            "answer 200 {\"ok\":true,\"modified\":true}\nend inputs=1 live=0 moment=0\n",
-        ),
-        // The same again, and another order.
-        (
-            b"0 REGISTER {\"appName\":\"a\",\"functions\":[{\"id\":\"f\",\"triggers\":[{\"event\":\"x\"}],\"steps\":{\"step\":{\"runtime\":{\"url\":\"http://127.0.0.1:9/api\"}}}},{\"id\":\"g\",\"triggers\":[{\"event\":\"x\"}],\"steps\":{\"step\":{\"runtime\":{\"url\":\"http://127.0.0.1:9/api\"}}}}]}\n0 REGISTER {\"appName\":\"a\",\"functions\":[{\"id\":\"f\",\"triggers\":[{\"event\":\"x\"}],\"steps\":{\"step\":{\"runtime\":{\"url\":\"http://127.0.0.1:9/api\"}}}},{\"id\":\"g\",\"triggers\":[{\"event\":\"x\"}],\"steps\":{\"step\":{\"runtime\":{\"url\":\"http://127.0.0.1:9/api\"}}}}]}\n0 REGISTER {\"appName\":\"a\",\"functions\":[{\"id\":\"g\",\"triggers\":[{\"event\":\"x\"}],\"steps\":{\"step\":{\"runtime\":{\"url\":\"http://127.0.0.1:9/api\"}}}},{\"id\":\"f\",\"triggers\":[{\"event\":\"x\"}],\"steps\":{\"step\":{\"runtime\":{\"url\":\"http://127.0.0.1:9/api\"}}}}]}\n",
-            "answer 200 {\"ok\":true,\"modified\":true}\nanswer 200 {\"ok\":true,\"modified\":false}\nanswer 200 {\"ok\":true,\"modified\":false}\nend inputs=3 live=0 moment=0\n",
-        ),
-        // Another function of the id, and the first again.
-        (
-            b"0 REGISTER {\"appName\":\"a\",\"functions\":[{\"id\":\"f\",\"triggers\":[{\"event\":\"x\"}],\"steps\":{\"step\":{\"runtime\":{\"url\":\"http://127.0.0.1:9/api\"}}}}]}\n0 REGISTER {\"appName\":\"a\",\"functions\":[{\"id\":\"f\",\"triggers\":[{\"event\":\"x\"}],\"steps\":{\"step\":{\"runtime\":{\"url\":\"http://127.0.0.1:9/api\"}}},\"concurrency\":1}]}\n0 REGISTER {\"appName\":\"a\",\"functions\":[{\"id\":\"f\",\"triggers\":[{\"event\":\"x\"}],\"steps\":{\"step\":{\"runtime\":{\"url\":\"http://127.0.0.1:9/api\"}}}}]}\n",
-            "answer 200 {\"ok\":true,\"modified\":true}\nanswer 200 {\"ok\":true,\"modified\":true}\nanswer 200 {\"ok\":true,\"modified\":true}\nend inputs=3 live=0 moment=0\n",
-        ),
-        // One that is no longer named, and then is.
-        (
-            b"0 REGISTER {\"appName\":\"a\",\"functions\":[{\"id\":\"f\",\"triggers\":[{\"event\":\"x\"}],\"steps\":{\"step\":{\"runtime\":{\"url\":\"http://127.0.0.1:9/api\"}}}}]}\n0 REGISTER {\"appName\":\"a\",\"functions\":[]}\n0 REGISTER {\"appName\":\"a\",\"functions\":[{\"id\":\"f\",\"triggers\":[{\"event\":\"x\"}],\"steps\":{\"step\":{\"runtime\":{\"url\":\"http://127.0.0.1:9/api\"}}}}]}\n",
-            "answer 200 {\"ok\":true,\"modified\":true}\nanswer 200 {\"ok\":true,\"modified\":true}\nanswer 200 {\"ok\":true,\"modified\":true}\nend inputs=3 live=0 moment=0\n",
-        ),
-        // An equal function of another application is taken over, and taken back.
-        (
-            b"0 REGISTER {\"appName\":\"a\",\"functions\":[{\"id\":\"f\",\"triggers\":[{\"event\":\"x\"}],\"steps\":{\"step\":{\"runtime\":{\"url\":\"http://127.0.0.1:9/api\"}}}}]}\n0 REGISTER {\"appName\":\"b\",\"functions\":[{\"id\":\"f\",\"triggers\":[{\"event\":\"x\"}],\"steps\":{\"step\":{\"runtime\":{\"url\":\"http://127.0.0.1:9/api\"}}}}]}\n0 REGISTER {\"appName\":\"a\",\"functions\":[{\"id\":\"f\",\"triggers\":[{\"event\":\"x\"}],\"steps\":{\"step\":{\"runtime\":{\"url\":\"http://127.0.0.1:9/api\"}}}}]}\n",
-            "answer 200 {\"ok\":true,\"modified\":true}\nanswer 200 {\"ok\":true,\"modified\":true}\nanswer 200 {\"ok\":true,\"modified\":true}\nend inputs=3 live=0 moment=0\n",
-        ),
-        // The functions of another application stay where no id of theirs is taken.
-        (
-            b"0 REGISTER {\"appName\":\"a\",\"functions\":[{\"id\":\"f\",\"triggers\":[{\"event\":\"x\"}],\"steps\":{\"step\":{\"runtime\":{\"url\":\"http://127.0.0.1:9/api\"}}}}]}\n0 REGISTER {\"appName\":\"b\",\"functions\":[{\"id\":\"g\",\"triggers\":[{\"event\":\"x\"}],\"steps\":{\"step\":{\"runtime\":{\"url\":\"http://127.0.0.1:9/api\"}}}}]}\n0 REGISTER {\"appName\":\"a\",\"functions\":[{\"id\":\"f\",\"triggers\":[{\"event\":\"x\"}],\"steps\":{\"step\":{\"runtime\":{\"url\":\"http://127.0.0.1:9/api\"}}}}]}\n",
-            "answer 200 {\"ok\":true,\"modified\":true}\nanswer 200 {\"ok\":true,\"modified\":true}\nanswer 200 {\"ok\":true,\"modified\":false}\nend inputs=3 live=0 moment=0\n",
-        ),
-        // A body that is refused changes nothing, and one is needed.
-        (
-            b"7 REGISTER {\n7 REGISTER []\n7 REGISTER {}\n7 REGISTER {\"appName\":\"a\"}\n",
-            "answer 400 {\"error\":\"not json\",\"status\":400}\nanswer 400 {\"error\":\"not json\",\"status\":400}\nanswer 400 {\"error\":\"no app name\",\"status\":400}\nanswer 400 {\"error\":\"no functions\",\"status\":400}\nend inputs=0 live=0 moment=0\n",
-        ),
-        // Events may come before a registration, and after one that was refused.
-        (
-            b"1 EVENT x i\n2 REGISTER {\"functions\":[]}\n3 EVENT x i\n4 REGISTER {\"appName\":\"a\",\"functions\":[]}\n",
-            "answer 200 {\"ids\":[\"evt-1\"],\"status\":200}\nanswer 400 {\"error\":\"no app name\",\"status\":400}\nanswer 200 {\"ids\":[\"evt-1\"],\"status\":200}\nanswer 200 {\"ok\":true,\"modified\":false}\nend inputs=3 live=0 moment=4\n",
-        ),
-        (
-            b"0 REGISTER \n",
-            "answer 400 {\"error\":\"not json\",\"status\":400}\nend inputs=0 live=0 moment=0\n",
-        ),
-    ];
-    for (script, printed) in &table {
-        check(&rt, script, 7, printed, Status::Done)?;
-    }
-    let ended: [(&[u8], &str); 3] = [
-        (b"0 REGISTER\n", "script fault in line 1\n"),
-        (
-            b"0 REGISTER {\"appName\":\"a\",\"functions\":[]}\n\n1 EVENT x i\n",
-            "answer 200 {\"ok\":true,\"modified\":false}\nscript fault in line 3\n",
-        ),
-        (
-            b"0 REGISTER {\"appName\":\"a\",\"functions\":[]}\n\n1 EVENTS [\n",
-            "answer 200 {\"ok\":true,\"modified\":false}\nscript fault in line 3\n",
-        ),
-    ];
-    for (index, (script, printed)) in ended.iter().enumerate() {
-        let line = if index == 0 { 1 } else { 3 };
-        check(&rt, script, 7, printed, Status::Script { line })?;
-    }
+    assert_eq!(rt; walk(&rt, WRITTEN, 7)?, 13);
     Ok(())
 }
 

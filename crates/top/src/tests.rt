@@ -12,6 +12,20 @@ fn replay(alloc: Global, input: &mut MemSource, out: &mut MemSink) -> Result<Sta
     Ok(run(alloc, Program::Replay, &[], &mut rig, input, out))
 }
 
+// Runs the script of a source, and checks what is printed and how it ended.
+fn ends(
+    rt: &(impl Abort + AllocGlobal),
+    input: &mut MemSource,
+    out: &mut MemSink,
+    printed: &str,
+    status: Status,
+) -> Result<(), Fail> {
+    let ended = replay(rt.alloc(), input, out)?;
+    assert_eq!(rt; str::from_utf8(out.written()), Ok(printed));
+    assert_eq!(rt; ended, status);
+    Ok(())
+}
+
 // Runs a script that comes in pieces of so many bytes at the most.
 pub(crate) fn check(
     rt: &(impl Abort + AllocGlobal),
@@ -23,91 +37,72 @@ pub(crate) fn check(
     let mut input = MemSource::from_slice(rt.alloc(), script)?;
     input.set_piece(piece.max(1));
     let mut out = MemSink::new(rt.alloc());
-    let ended = replay(rt.alloc(), &mut input, &mut out)?;
-    assert_eq!(rt; str::from_utf8(out.written()), Ok(printed));
-    assert_eq!(rt; ended, status);
-    Ok(())
+    ends(rt, &mut input, &mut out, printed, status)
 }
+
+// The lines of a row, each ended by a `|`.
+fn lines_of(alloc: Global, text: &str) -> Result<String, Fail> {
+    Ok(text.replace(alloc, "|", "\n")?)
+}
+
+// How a script ends: with a fault in the line of this number, or else done.
+fn end_of(text: &str) -> Status {
+    match text.parse::<u64>() {
+        Ok(line) => Status::Script { line },
+        Err(_) => Status::Done,
+    }
+}
+
+// Runs the script of a row `SCRIPT => PRINTED => END`.
+fn check_row(
+    rt: &(impl Abort + AllocGlobal),
+    script: &str,
+    wanted: &str,
+    piece: usize,
+) -> Result<(), Fail> {
+    let Some((printed, end)) = wanted.split_once(" => ") else {
+        return Err(Fail::new("no end"))
+    };
+    let script = lines_of(rt.alloc(), script)?;
+    let printed = lines_of(rt.alloc(), printed)?;
+    check(rt, script.as_bytes(), piece, &printed, end_of(end))
+}
+
+// Runs the script of each row, and gives the number of the rows. A line without ` => ` is a heading.
+pub(crate) fn walk(rt: &(impl Abort + AllocGlobal), rows: &str, piece: usize) -> Result<u32, Fail> {
+    let mut count: u32 = 0;
+    for row in rows.lines() {
+        if let Some((script, wanted)) = row.split_once(" => ") {
+            check_row(rt, script, wanted, piece)?;
+            count = count.wrapping_add(1);
+        }
+    }
+    Ok(count)
+}
+
+/// Scripts, with what each prints, and `done` or the number of the line at fault. A `|` is the end of a line.
+const SCRIPTS: &str =
+    r#"0 EVENT x i1|86399999 EVENT x i1|86400000 EVENT x i1| => answer 200 {"ids":["evt-1"],"status":200}|answer 200 {"ids":["evt-1"],"status":200}|answer 200 {"ids":["evt-2"],"status":200}|end inputs=3 live=0 moment=86400000| => done
+1000 EVENT x i1|500 EVENT x i2| => answer 200 {"ids":["evt-1"],"status":200}|answer 200 {"ids":["evt-2"],"status":200}|end inputs=2 live=0 moment=1000| => done
+bogus => script fault in line 1| => 1
+ => end inputs=0 live=0 moment=0| => done
+0 EVENT x i1 => answer 200 {"ids":["evt-1"],"status":200}|end inputs=1 live=0 moment=0| => done
+# a comment||007 EVENT x -| => answer 200 {"ids":["evt-1"],"status":200}|end inputs=1 live=0 moment=7| => done
+0 EVENT x -|0 EVENT x -| => answer 200 {"ids":["evt-1"],"status":200}|answer 200 {"ids":["evt-2"],"status":200}|end inputs=2 live=0 moment=0| => done
+18446744073709551615 EVENT x i1| => answer 200 {"ids":["evt-1"],"status":200}|end inputs=1 live=0 moment=253402300799999| => done
+18446744073709551616 EVENT x i1| => script fault in line 1| => 1
+0 EVENT x i1|0 EVENT x i1 | => answer 200 {"ids":["evt-1"],"status":200}|script fault in line 2| => 2
+0 EVENT  i1| => script fault in line 1| => 1
+0 EVENT x| => script fault in line 1| => 1
+0 EVENT x i"1| => script fault in line 1| => 1
+ 0 EVENT x i1| => script fault in line 1| => 1
+|0 event x i1| => script fault in line 2| => 2
+"#;
 
 #[test]
 fn scripts(rt: HostRuntime) -> Result<(), Fail> {
-    let table: [(&[u8], &str, Status); 15] = [
-        (
-            THREE_LINES,
-            "answer 200 {\"ids\":[\"evt-1\"],\"status\":200}\nanswer 200 {\"ids\":[\"evt-1\"],\"status\":200}\nanswer 200 {\"ids\":[\"evt-2\"],\"status\":200}\nend inputs=3 live=0 moment=86400000\n",
-            Status::Done,
-        ),
-        (
-            b"1000 EVENT x i1\n500 EVENT x i2\n",
-            "answer 200 {\"ids\":[\"evt-1\"],\"status\":200}\nanswer 200 {\"ids\":[\"evt-2\"],\"status\":200}\nend inputs=2 live=0 moment=1000\n",
-            Status::Done,
-        ),
-        (
-            b"bogus",
-            "script fault in line 1\n",
-            Status::Script { line: 1 },
-        ),
-        (b"", "end inputs=0 live=0 moment=0\n", Status::Done),
-        (
-            b"0 EVENT x i1",
-            "answer 200 {\"ids\":[\"evt-1\"],\"status\":200}\nend inputs=1 live=0 moment=0\n",
-            Status::Done,
-        ),
-        (
-            b"# a comment\n\n007 EVENT x -\n",
-            "answer 200 {\"ids\":[\"evt-1\"],\"status\":200}\nend inputs=1 live=0 moment=7\n",
-            Status::Done,
-        ),
-        (
-            b"0 EVENT x -\n0 EVENT x -\n",
-            "answer 200 {\"ids\":[\"evt-1\"],\"status\":200}\nanswer 200 {\"ids\":[\"evt-2\"],\"status\":200}\nend inputs=2 live=0 moment=0\n",
-            Status::Done,
-        ),
-        (
-            b"18446744073709551615 EVENT x i1\n",
-            "answer 200 {\"ids\":[\"evt-1\"],\"status\":200}\nend inputs=1 live=0 moment=253402300799999\n",
-            Status::Done,
-        ),
-        (
-            b"18446744073709551616 EVENT x i1\n",
-            "script fault in line 1\n",
-            Status::Script { line: 1 },
-        ),
-        (
-            b"0 EVENT x i1\n0 EVENT x i1 \n",
-            "answer 200 {\"ids\":[\"evt-1\"],\"status\":200}\nscript fault in line 2\n",
-            Status::Script { line: 2 },
-        ),
-        (
-            b"0 EVENT  i1\n",
-            "script fault in line 1\n",
-            Status::Script { line: 1 },
-        ),
-        (
-            b"0 EVENT x\n",
-            "script fault in line 1\n",
-            Status::Script { line: 1 },
-        ),
-        (
-            b"0 EVENT x i\"1\n",
-            "script fault in line 1\n",
-            Status::Script { line: 1 },
-        ),
-        (
-            b" 0 EVENT x i1\n",
-            "script fault in line 1\n",
-            Status::Script { line: 1 },
-        ),
-        (
-            b"\n0 event x i1\n",
-            "script fault in line 2\n",
-            Status::Script { line: 2 },
-        ),
-    ];
-    for (script, printed, status) in &table {
-        for piece in [1, 2, 7, 65_536] {
-            check(&rt, script, piece, printed, *status)?;
-        }
+    for piece in [1, 2, 7, 65_536] {
+        assert_eq!(rt; walk(&rt, SCRIPTS, piece)?, 15);
     }
     Ok(())
 }
@@ -159,41 +154,53 @@ fn words_are_refused(rt: HostRuntime) -> Result<(), Fail> {
     Ok(())
 }
 
+/// The number of the read that fails, and what is then printed. The reads give 20, 20 and 13 bytes, and then the end.
+const READ_FAULTS: &str = r#"1 => read fault|
+2 => answer 200 {"ids":["evt-1"],"status":200}|read fault|
+3 => answer 200 {"ids":["evt-1"],"status":200}|answer 200 {"ids":["evt-1"],"status":200}|read fault|
+4 => answer 200 {"ids":["evt-1"],"status":200}|answer 200 {"ids":["evt-1"],"status":200}|answer 200 {"ids":["evt-2"],"status":200}|read fault|
+"#;
+
+// The number and the lines of a row `NUMBER => PRINTED`.
+fn parts_of(alloc: Global, row: &str) -> Result<(u64, String), Fail> {
+    let Some((number, printed)) = row.split_once(" => ") else {
+        return Err(Fail::new("no number"))
+    };
+    let Ok(number) = number.parse::<u64>() else {
+        return Err(Fail::new("no number"))
+    };
+    Ok((number, lines_of(alloc, printed)?))
+}
+
+// The three lines in reads of 20 bytes, of which the one of this number fails.
+fn fails_at_read(
+    rt: &(impl Abort + AllocGlobal),
+    number: u64,
+    printed: &str,
+    status: Status,
+) -> Result<(), Fail> {
+    let mut input = MemSource::from_slice(rt.alloc(), THREE_LINES)?;
+    input.set_piece(20);
+    input.fail_read(number)?;
+    let mut out = MemSink::new(rt.alloc());
+    ends(rt, &mut input, &mut out, printed, status)
+}
+
 #[test]
 fn failing_reads(rt: HostRuntime) -> Result<(), Fail> {
-    // The reads give 20, 20 and 13 bytes, and then the end.
-    let table = [
-        (1u64, "read fault\n", Status::ReadFault),
-        (
-            2,
-            "answer 200 {\"ids\":[\"evt-1\"],\"status\":200}\nread fault\n",
-            Status::ReadFault,
-        ),
-        (
-            3,
-            "answer 200 {\"ids\":[\"evt-1\"],\"status\":200}\nanswer 200 {\"ids\":[\"evt-1\"],\"status\":200}\nread fault\n",
-            Status::ReadFault,
-        ),
-        (
-            4,
-            "answer 200 {\"ids\":[\"evt-1\"],\"status\":200}\nanswer 200 {\"ids\":[\"evt-1\"],\"status\":200}\nanswer 200 {\"ids\":[\"evt-2\"],\"status\":200}\nread fault\n",
-            Status::ReadFault,
-        ),
-        (
-            5,
-            "answer 200 {\"ids\":[\"evt-1\"],\"status\":200}\nanswer 200 {\"ids\":[\"evt-1\"],\"status\":200}\nanswer 200 {\"ids\":[\"evt-2\"],\"status\":200}\nend inputs=3 live=0 moment=86400000\n",
-            Status::Done,
-        ),
-    ];
-    for (read, printed, status) in &table {
-        let mut input = MemSource::from_slice(rt.alloc(), THREE_LINES)?;
-        input.set_piece(20);
-        input.fail_read(*read)?;
-        let mut out = MemSink::new(rt.alloc());
-        assert_eq!(rt; replay(rt.alloc(), &mut input, &mut out)?, *status);
-        assert_eq!(rt; str::from_utf8(out.written()), Ok(*printed));
+    for row in READ_FAULTS.lines() {
+        let (number, printed) = parts_of(rt.alloc(), row)?;
+        fails_at_read(&rt, number, &printed, Status::ReadFault)?;
     }
+    assert_eq!(rt; READ_FAULTS.lines().count(), 4);
     Ok(())
+}
+
+#[test]
+fn the_read_behind_the_end_is_not_made(rt: HostRuntime) -> Result<(), Fail> {
+    let printed =
+        "answer 200 {\"ids\":[\"evt-1\"],\"status\":200}\nanswer 200 {\"ids\":[\"evt-1\"],\"status\":200}\nanswer 200 {\"ids\":[\"evt-2\"],\"status\":200}\nend inputs=3 live=0 moment=86400000\n";
+    fails_at_read(&rt, 5, printed, Status::Done)
 }
 
 #[test]
@@ -201,57 +208,44 @@ fn half_a_line_before_a_fault(rt: HostRuntime) -> Result<(), Fail> {
     let mut input = MemSource::from_slice(rt.alloc(), b"0 EV")?;
     input.fail_read(2)?;
     let mut out = MemSink::new(rt.alloc());
-    let status = replay(rt.alloc(), &mut input, &mut out)?;
-    assert_eq!(rt; status.number(), 7);
-    assert_eq!(rt; out.written(), b"read fault\n".as_slice());
-    Ok(())
+    ends(&rt, &mut input, &mut out, "read fault\n", Status::ReadFault)
+}
+
+/// The number of the write that fails, and what is then printed: its first six bytes are left. Each read of 20 bytes
+/// ends a line, and what it says is written before the next.
+const WRITE_FAULTS: &str = r#"1 => answer
+2 => answer 200 {"ids":["evt-1"],"status":200}|answer
+3 => answer 200 {"ids":["evt-1"],"status":200}|answer 200 {"ids":["evt-1"],"status":200}|answer
+4 => answer 200 {"ids":["evt-1"],"status":200}|answer 200 {"ids":["evt-1"],"status":200}|answer 200 {"ids":["evt-2"],"status":200}|end in
+"#;
+
+// The three lines in reads of 20 bytes, where the write of this number fails after so many bytes.
+fn fails_at_write(
+    rt: &(impl Abort + AllocGlobal),
+    number: u64,
+    prefix: usize,
+    printed: &str,
+) -> Result<(), Fail> {
+    let mut input = MemSource::from_slice(rt.alloc(), THREE_LINES)?;
+    input.set_piece(20);
+    let mut out = MemSink::new(rt.alloc());
+    out.fail_write(FailedWrite { number, prefix })?;
+    ends(rt, &mut input, &mut out, printed, Status::WriteFault)
 }
 
 #[test]
 fn failing_writes(rt: HostRuntime) -> Result<(), Fail> {
-    // Each read of 20 bytes ends a line, and what it says is written before the next. Each failing write
-    // leaves its first six bytes.
-    let table = [
-        (1u64, "answer"),
-        (2, "answer 200 {\"ids\":[\"evt-1\"],\"status\":200}\nanswer"),
-        (
-            3,
-            "answer 200 {\"ids\":[\"evt-1\"],\"status\":200}\nanswer 200 {\"ids\":[\"evt-1\"],\"status\":200}\nanswer",
-        ),
-        (
-            4,
-            "answer 200 {\"ids\":[\"evt-1\"],\"status\":200}\nanswer 200 {\"ids\":[\"evt-1\"],\"status\":200}\nanswer 200 {\"ids\":[\"evt-2\"],\"status\":200}\nend in",
-        ),
-    ];
-    for (write, printed) in &table {
-        let mut input = MemSource::from_slice(rt.alloc(), THREE_LINES)?;
-        input.set_piece(20);
-        let mut out = MemSink::new(rt.alloc());
-        out.fail_write(FailedWrite {
-            number: *write,
-            prefix: 6,
-        })?;
-        let status = replay(rt.alloc(), &mut input, &mut out)?;
-        assert_eq!(rt; status.number(), 8);
-        assert_eq!(rt; str::from_utf8(out.written()), Ok(*printed));
+    for row in WRITE_FAULTS.lines() {
+        let (number, printed) = parts_of(rt.alloc(), row)?;
+        fails_at_write(&rt, number, 6, &printed)?;
     }
+    assert_eq!(rt; WRITE_FAULTS.lines().count(), 4);
     Ok(())
 }
 
 #[test]
 fn nothing_is_written(rt: HostRuntime) -> Result<(), Fail> {
-    let mut input = MemSource::from_slice(rt.alloc(), THREE_LINES)?;
-    let mut out = MemSink::new(rt.alloc());
-    out.fail_write(FailedWrite {
-        number: 1,
-        prefix: 0,
-    })?;
-    assert_eq!(rt;
-        replay(rt.alloc(), &mut input, &mut out)?,
-        Status::WriteFault
-    );
-    assert_eq!(rt; out.written().len(), 0);
-    Ok(())
+    fails_at_write(&rt, 1, 0, "")
 }
 
 #[test]
@@ -260,6 +254,8 @@ fn statuses(rt: HostRuntime) {
         (Status::Done, 0u8),
         (Status::Memory, 4),
         (Status::Script { line: 9 }, 6),
+        (Status::ReadFault, 7),
+        (Status::WriteFault, 8),
         (Status::NumbersSpent, 11),
     ];
     for (status, number) in &table {

@@ -1,6 +1,6 @@
 ghost use Rattle.std.specs.Prelude.{◌≡◌, ◌<◌};
 
-use crate::{EvalFault, Value, cell_value, eval};
+use cel_eval::{EvalFault, Value, cell_value, eval};
 use cel_parse::parse;
 use expr::Expr;
 use json_text::Tree;

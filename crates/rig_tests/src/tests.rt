@@ -1,5 +1,5 @@
-use crate::{FailedWrite, MemRig, MemSink, MemSource, Rig, Sink, Source};
 use lists::{Bytes, Items, Memory};
+use rig::{FailedWrite, MemRig, MemSink, MemSource, Rig, Sink, Source};
 use std::alloc::Global;
 use std::test::Fail;
 

@@ -1,6 +1,6 @@
 ghost use Rattle.json_text.specs.Nodes.{IsNodeOf};
 
-use crate::{Comparison, JsonFault, Kind, Node, Tree, put_text};
+use json_text::{Comparison, JsonFault, Kind, Node, Tree, put_text};
 use lists::Bytes;
 use std::alloc::Global;
 use std::process::Abort;

@@ -1,5 +1,5 @@
-use crate::{FailForm, Image, MemRig, Rig, Side, SilentRig};
 use lists::Memory;
+use rig::{FailForm, Image, MemRig, Rig, Side, SilentRig};
 use std::alloc::Global;
 use std::test::Fail;
 

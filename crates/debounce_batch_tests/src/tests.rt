@@ -1,4 +1,4 @@
-use crate::Windows;
+use debounce_batch::Windows;
 use kinds::{Batch, Debounce, Fired, Offered, WindowRule};
 use lists::Bytes;
 use std::test::Fail;

@@ -1,7 +1,7 @@
 -- The nodes that are left are nodes of the tree.
 use Rattle.std.specs.List.{AllByRecursion}
 use Rattle.json_text.specs.Nodes.{AreNodesOf}
-use Rattle.json_text.proofs.tests.bytes_of.Given as goal
+use Rattle.json_text_tests.proofs.tests.bytes_of.Given as goal
 
 abbrev pub invariant-loop-name : goal.invariant-loop-name
 invariant-loop-name l =

@@ -1,6 +1,6 @@
-use crate::{Active, Fresh, Noted};
 use kinds::{Pending, RunStatus, StepHash};
 use lists::Bytes;
+use run_state::{Active, Fresh, Noted};
 use std::alloc::Global;
 use std::test::Fail;
 
