@@ -1,5 +1,7 @@
 mod BehindLemmas
 mod BesideLemmas
 mod FilledLemmas
+mod NameLemmas
 mod RuleLemmas
 mod StepLemmas
+mod WindowLemmas

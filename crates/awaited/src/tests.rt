@@ -3,9 +3,9 @@ ghost use Rattle.std.specs.Prelude.{◌≡◌, ◌<◌, IfOk};
 ghost use Rattle.kinds.specs.Stores.{rule_number, wait_number};
 ghost use Rattle.awaited.specs.Entries.{sleep_number, invocation_number};
 
-use crate::{Invocation, Invocations, Rules, Sleep, Sleeps, Waits};
+use crate::{Invocation, Invocations, Placed, Rules, Sleep, Sleeps, Waits, WindowSet};
 use expr::Expr;
-use kinds::{Due, Event, Matcher, Parent, PathMatcher, Rule, StepHash, Steps, Wait};
+use kinds::{Batch, Due, Event, Matcher, Parent, PathMatcher, Rule, StepHash, Steps, Wait, WindowRule};
 use lists::{Bytes, Memory};
 use std::alloc::Global;
 use std::marker::Brand;
@@ -215,5 +215,40 @@ fn met_by_none<L: Ledger>(alloc: Global, blank: Blank) -> Result<usize, Memory>
 #[test]
 fn an_event_meets_none(rt: HostRuntime) -> Result<(), Fail> {
     assert_eq!(rt; met_by_none::<Brand>(rt.alloc(), Blank::new(1))?, 0);
+    Ok(())
+}
+
+/// Whether a window was open before, and how many events made one full.
+fn told(placed: Placed) -> (bool, usize) {
+    match placed {
+        Placed::Opened => (false, 0),
+        Placed::Joined => (true, 0),
+        Placed::Full { events, was_open } => (was_open, events.len()),
+    }
+}
+
+#[test]
+fn a_batch_names_its_events(rt: HostRuntime) -> Result<(), Fail> {
+    let rule = WindowRule::Batch(Batch {
+        size: 2,
+        timeout: 5_000,
+        key: None,
+    });
+    let value = Bytes::new(rt.alloc());
+    let mut windows = WindowSet::empty(rt.alloc());
+    let first = told(windows.offer(1, &rule, &value, 1, 0, 1)?);
+    assert_eq!(rt; first, (false, 0));
+    assert_eq!(rt; windows.first(), due(5_000, 1, 0));
+    assert_eq!(rt; (windows.names(1), windows.names(2)), (true, false));
+    assert!(rt; windows.names_version(1));
+    let second = told(windows.offer(1, &rule, &value, 2, 4_000, 2)?);
+    assert_eq!(rt; second, (true, 2));
+    assert!(rt; !windows.names(1));
+    let third = told(windows.offer(1, &rule, &value, 3, 4_000, 2)?);
+    assert_eq!(rt; third, (false, 0));
+    assert!(rt; windows.find(&(1, Bytes::new(rt.alloc()))).is_some());
+    assert!(rt; windows.fire(2).is_some());
+    assert!(rt; !windows.names_version(1));
+    assert_eq!(rt; windows.entries().count(), 0);
     Ok(())
 }

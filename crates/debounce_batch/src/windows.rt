@@ -119,20 +119,21 @@ impl Windows {
         self.add(key, window)
     }
 
-    /// The windows by reference: debounces and then batches, each by number.
-    pub fn entries(&self) -> Entries<'_>
-        ensures { result ≡ self.now }
-    {
-        Entries::new(self.windows.values())
-    }
-
-    fn find(&self, key: &(u64, Bytes)) -> Option<&Window>
+    /// The window that is open for a function version and a value of the rule's key.
+    pub fn find(&self, key: &(u64, Bytes)) -> Option<&Window>
         ensures value { option_copied result ≡ find (is_of key.now.0 key.now.1) self.now }
         ensures dated { IfSome result (λ w. IsDated w.now) }
     {
         let place = self.places.get(key)?;
         let held = self.windows.get(place)?;
         Some(held.window())
+    }
+
+    /// The windows by reference: debounces and then batches, each by number.
+    pub fn entries(&self) -> Entries<'_>
+        ensures { result ≡ self.now }
+    {
+        Entries::new(self.windows.values())
     }
 
     fn add(&mut self, key: (u64, Bytes), window: Window) -> Result<(), Memory>

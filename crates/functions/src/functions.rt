@@ -31,6 +31,15 @@ pub struct Registered {
     pub versions: u64,
     /// Whether the list of current functions is another than before.
     pub modified: bool,
+    /// Those that were current and no longer are, in order of version.
+    pub replaced: Items<FunctionEntry>,
+}
+
+// Those that stay, and those that don't.
+#[derive(Drop)]
+struct Sorted {
+    kept: Functions,
+    replaced: Items<FunctionEntry>,
 }
 
 impl Functions {
@@ -105,7 +114,7 @@ impl Functions {
             r.modified ≡ is_modified self (registered app versions self)) }
     {
         let before = self.versions(alloc)?;
-        let kept = self.keep(alloc, &app)?;
+        let Sorted { kept, replaced } = self.sort(alloc, &app)?;
         let App { name, functions } = app;
         let new = new_functions(alloc, kept.as_slice(), &name, functions)?;
         let versions_after = versions + new.len() as u64;
@@ -115,6 +124,7 @@ impl Functions {
             functions,
             versions: versions_after,
             modified,
+            replaced,
         })
     }
 
@@ -128,17 +138,24 @@ impl Functions {
         Ok(versions)
     }
 
-    // Those that stay.
-    fn keep(self, alloc: Global, app: &App) -> Result<Self, Memory>
-        ensures { IfOk result (λ kept. kept ≡ filter (stays app.now) self) }
+    // Parts those that stay from those that don't.
+    fn sort(self, alloc: Global, app: &App) -> Result<Sorted, Memory>
+        ensures kept { IfOk result (λ sorted. sorted.kept ≡ filter (stays app.now) self) }
+        ensures replaced { IfOk result (λ sorted. sorted.replaced ≡ filter (λ f. not (stays app.now f)) self) }
     {
         let mut kept = Items::new(alloc);
+        let mut replaced = Items::new(alloc);
         for entry in self.entries {
             if stays(app, &entry) {
                 kept.push(entry)?;
+            } else {
+                replaced.push(entry)?;
             }
         }
-        Ok(Functions { entries: kept })
+        Ok(Sorted {
+            kept: Functions { entries: kept },
+            replaced,
+        })
     }
 
     // Adds functions, each with the next version.
@@ -203,7 +220,7 @@ fn is_function(name: &Bytes, function: &Function, entry: &FunctionEntry) -> bool
 fn stands_for(app: &App, function: &Function, entry: &FunctionEntry) -> bool
     ensures { result ≡ stands_for app.now function.now entry.now }
 {
-    stays(app, entry) && is_function(&app.name, function, entry)
+    is_function(&app.name, function, entry) && stays(app, entry)
 }
 
 // Whether the function stays current.

@@ -2,7 +2,7 @@
 -- changes. Each word of the definition keeps it: here those of making and of recording.
 use Rattle.std.proofs.Common.{◌≡◌, ℕ, ◌+◌, ◌≤◌, ◌==◌, Bool, true, false, not, ◌&&◌, cond, List, [], ◌∷◌, ◌++◌, filter, codes, Option, Some, None, IfSome, refl, subst, eqb-true}
 use Rattle.std.specs.List.{AllByRecursion, list_any}
-use Rattle.kinds.specs.RunSteps.{Noting, adds, known, full, is_recorded, note_pending, note_plan}
+use Rattle.kinds.specs.RunSteps.{Noting, adds, known, full, is_pending, note_pending, note_plan}
 use Rattle.kinds.specs.Seen.{find_seen}
 use Rattle.kinds.specs.Windows as windows
 use Rattle.kinds.specs.Windows.{after_event, is_full}
@@ -21,7 +21,7 @@ use Rattle.run_model.specs.Ends.{end_run, first_text, is_invocation_of, without_
 use Rattle.run_model.specs.Events.{add_event, end_wait, event_with, has_wait, window_of, window_rule_of, with_window, without_wait}
 use Rattle.run_model.specs.Laws.{IsIn}
 use Rattle.run_model.specs.Making.{add_rule, add_rules, discover, discover_all, discover_one, first_of, has_discovery, make_run, queue_new, run_with, step_target, text_or_none}
-use Rattle.run_model.specs.Recording.{Discovery, at_once, at_the_end, change_run, discovered, record_result}
+use Rattle.run_model.specs.Recording.{Discovery, at_once, at_the_end, change_run, discovered, is_pending_in, record_result, wake_step}
 use Rattle.run_model.specs.Replies.{add_invocation, add_sleep, add_wait, is_new_result, pend, plan_named, want}
 use Rattle.run_model.specs.Requests.{remember}
 use Rattle.run_model.specs.State.{State, Run, Sleep, Waiting, Invocation, live_run, text_of}
@@ -115,12 +115,12 @@ pub record Keeps (P : State → Type 0) : Type 0 where
   pub results : (r : Run) (name result : List ℕ) (s : State) → IsLive r s → is_new_result name r.steps ≡ true
       → P s → P (record_result r.number name result s)
   pub sleep_ends : (e : Sleep) (s : State) → IsIn e s.sleeps → P s
-      → P (record_result e.run e.hash (codes "null") (without_sleep e.number s))
+      → P (wake_step e.run e.hash (codes "null") (without_sleep e.number s))
   pub wait_ends : (w : Waiting) (result : List ℕ) (s : State) → IsIn w s.waits → P s → P (end_wait result w s)
   pub invocation_ends : (e : Invocation) (s : State) → IsIn e s.invocations → P s
-      → P (record_result e.run e.hash timed_out (without_invocation e.number s))
+      → P (wake_step e.run e.hash timed_out (without_invocation e.number s))
   pub tells : (p : Parent) (r : Run) (result : List ℕ) (s : State) → live_run p.run s ≡ Some r
-      → is_recorded p.hash r.steps ≡ false → P s
+      → is_pending p.hash r.steps ≡ true → P s
       → P (record_result p.run p.hash result (without_invocation_of p s))
   -- a rule is over
   pub rule_ends : (e : Rule) (s : State) → IsIn e s.rules → P s → P (without_rule e.number s)
@@ -134,15 +134,26 @@ pub record Goes (P : State → Type 0) : Type 0 where
       → P s → P (record s { invocations = filter test s.invocations })
   pub rules_go : (test : Rule → Bool) (s : State) → P s → P (record s { rules = filter test s.rules })
 
+pub kept-woken : (P : State → Type 0) (b : Bool) (s t : State) → P s → P t
+    → P (elim b as (λ _. State) [ true ↦ t | false ↦ s ])
+kept-woken P true s t h k = k
+kept-woken P false s t h k = h
+
+pub kept-wake_step : (P : State → Type 0) → Goes P → (run : ℕ) (name result : List ℕ) (s : State) → P s
+    → P (wake_step run name result s)
+kept-wake_step P keeps run name result s h =
+    kept-woken P (is_pending_in name (live_run run s)) s (record_result run name result s) h
+    (keeps.records run name result s h)
+
 pub freely : (P : State → Type 0) → Changes P → Goes P → Keeps P
 freely P changes keeps = record {
   changes = changes;
   results = λ r name result s live new h. keeps.records r.number name result s h;
-  sleep_ends = λ e s there h. keeps.records e.run e.hash (codes "null") (without_sleep e.number s)
+  sleep_ends = λ e s there h. kept-wake_step P keeps e.run e.hash (codes "null") (without_sleep e.number s)
       (keeps.sleeps_go (λ (other : Sleep). not (e.number == other.number)) s h);
-  wait_ends = λ w result s there h. keeps.records w.wait.run w.hash result (without_wait w.wait.number s)
+  wait_ends = λ w result s there h. kept-wake_step P keeps w.wait.run w.hash result (without_wait w.wait.number s)
       (keeps.waits_go (λ v. not (has_wait w.wait.number v)) s h);
-  invocation_ends = λ e s there h. keeps.records e.run e.hash timed_out (without_invocation e.number s)
+  invocation_ends = λ e s there h. kept-wake_step P keeps e.run e.hash timed_out (without_invocation e.number s)
       (keeps.invocations_go (λ (other : Invocation). not (e.number == other.number)) s h);
   tells = λ p r result s live new h. keeps.records p.run p.hash result (without_invocation_of p s)
       (keeps.invocations_go (λ i. not (is_invocation_of p i)) s h);

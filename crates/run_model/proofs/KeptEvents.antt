@@ -2,7 +2,7 @@
 use Rattle.std.proofs.Common.{◌≡◌, ℕ, ◌+◌, ◌≤◌, Bool, true, false, List, [], ◌∷◌, map, find, Option, Some, None, IfSome, refl, arith}
 use Rattle.std.specs.List.{AllByRecursion}
 use Rattle.std.specs.Option.{option_and_then}
-use Rattle.kinds.specs.RunSteps.{is_recorded}
+use Rattle.kinds.specs.RunSteps.{is_pending}
 use Rattle.kinds.specs.Seen.{find_seen}
 use Rattle.kinds.specs.Stores.{cancelled, woken}
 use Rattle.kinds.specs.Windows as windows
@@ -139,17 +139,17 @@ module _ (P : State → Type 0) (keeps : Keeps P) where
   -- ## Ends
 
   pub kept-record_at_parent : (d : Discovery) (p : Parent) (r : Run) (result : List ℕ) (b : Bool) (s : State)
-      → live_run p.run s ≡ Some r → is_recorded p.hash r.steps ≡ b → P s → P (record_at_parent d p result b s)
-  kept-record_at_parent d p r result true s live e h = h
-  kept-record_at_parent d p r result false s live e h =
+      → live_run p.run s ≡ Some r → is_pending p.hash r.steps ≡ b → P s → P (record_at_parent d p result b s)
+  kept-record_at_parent d p r result true s live e h =
       kept-discovered P keeps d (record_result p.run p.hash result (without_invocation_of p s))
       (keeps.tells p r result s live e h)
+  kept-record_at_parent d p r result false s live e h = h
 
   pub kept-tell : (d : Discovery) (p : Parent) (result : List ℕ) (found : Option Run) (s : State)
       → live_run p.run s ≡ found → P s → P (tell d p result found s)
   kept-tell d p result None s e h = h
   kept-tell d p result (Some r) s e h =
-      kept-record_at_parent d p r result (is_recorded p.hash r.steps) s e refl h
+      kept-record_at_parent d p r result (is_pending p.hash r.steps) s e refl h
 
   pub kept-tell_parent : (d : Discovery) (p : Option Parent) (result : List ℕ) (s : State) → P s
       → P (tell_parent d p result s)

@@ -18,7 +18,7 @@ use Rattle.run_model.specs.Fit.{item_of}
 use Rattle.run_model.specs.Laws.{IsIn}
 use Rattle.run_model.specs.Machine.{act, count_input, reopen, requeue_all, requeue_found, step, with_functions}
 use Rattle.run_model.specs.Making.{queue}
-use Rattle.run_model.specs.Recording.{change_run, record_result}
+use Rattle.run_model.specs.Recording.{change_run, wake_step}
 use Rattle.run_model.specs.Replies.{want}
 use Rattle.run_model.specs.Settle.{Settled, issue, issue_found, issue_of, item_at, next_issued, settle, settle_by}
 use Rattle.run_model.specs.State.{State, Run, Issue, at_moment, function_at, live_run, moment_at, tidied}
@@ -138,14 +138,14 @@ module _ (bound : ℕ) (A : Input → Type 0) (P : List Item → State → Type 
   pub kept-fire : (e : Timed) (s : State) → IsThere s e → P [] s → P [] (fire e s)
   kept-fire (sleep_end e) s there h =
       kept-discover (P []) (keeps.calls.runs [])
-      (record_result e.run e.hash (codes "null") (without_sleep e.number s))
+      (wake_step e.run e.hash (codes "null") (without_sleep e.number s))
       ((keeps.calls.runs []).sleep_ends e s there h)
   kept-fire (wait_end e) s there h =
       kept-discover (P []) (keeps.calls.runs []) (end_wait (codes "{\"data\":null}") e s)
       ((keeps.calls.runs []).wait_ends e (codes "{\"data\":null}") s there h)
   kept-fire (invocation_end e) s there h =
       kept-discover (P []) (keeps.calls.runs [])
-      (record_result e.run e.hash timed_out (without_invocation e.number s))
+      (wake_step e.run e.hash timed_out (without_invocation e.number s))
       ((keeps.calls.runs []).invocation_ends e s there h)
   kept-fire (window_end w) s there h =
       kept-make_found (function_at (windows.version_of w) s) w s refl there h

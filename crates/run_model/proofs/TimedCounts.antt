@@ -21,12 +21,12 @@ use Rattle.run_model.specs.Ends.{end_run}
 use Rattle.run_model.specs.Events.{add_event, event_with, window_of, without_wait}
 use Rattle.run_model.specs.Laws.{IsIn}
 use Rattle.run_model.specs.Making.{add_rule, first_of, new_rule}
-use Rattle.run_model.specs.Recording.{record_result}
+use Rattle.run_model.specs.Recording.{is_pending_in, record_result, wake_step}
 use Rattle.run_model.specs.Replies.{add_invocation, add_sleep, add_wait, close, due_at, new_sleep, retry, wait_with}
 use Rattle.run_model.specs.Requests.{remember}
-use Rattle.run_model.specs.State.{State, Run, Issue, Invocation, Sleep, Waiting, function_at}
+use Rattle.run_model.specs.State.{State, Run, Issue, Invocation, Sleep, Waiting, function_at, live_run}
 use Rattle.run_model.proofs.FitWindows.{joined-value, joined-version, with_after}
-use Rattle.run_model.proofs.Kept.{Keeps, kept-discover, kept-make_run, window_after, with_offer, freely}
+use Rattle.run_model.proofs.Kept.{Keeps, kept-discover, kept-make_run, window_after, with_offer, freely, kept-woken}
 use Rattle.run_model.proofs.KeptReplies.{KeepsCalls, kept-retry}
 use Rattle.run_model.proofs.KeptSteps.{IsThere, all_fired, is-due}
 use Rattle.run_model.proofs.Members.{any-in}
@@ -204,22 +204,29 @@ few-found : (c : ℕ) (found : Option FunctionEntry) (w : Window) (s : State) �
 few-found c None w s h = h
 few-found c (Some f) w s h = kept-make_run (AreFew c) (keeps-few c) f (windows.events_of w) None s h
 
+few-woken : (c run : ℕ) (name result : List ℕ) (s : State) → AreFew c s → AreFew c (wake_step run name result s)
+few-woken c run name result s h = kept-woken (AreFew c) (is_pending_in name (live_run run s)) s
+    (record_result run name result s) h h
+
 few-fire : (c : ℕ) (e : Timed) (s : State) → IsThere s e → AreFew c s → AreFew (c + 1) (fire e s)
 few-fire c (sleep_end e) s there h =
     let less = one-goes (λ (o : Sleep). o.number) e s.sleeps there in
     let left : AreFew (c + 1) (without_sleep e.number s) = omega (arith, h, less) in
     kept-discover (AreFew (c + 1)) (keeps-few (c + 1))
-    (record_result e.run e.hash (codes "null") (without_sleep e.number s)) left
+    (wake_step e.run e.hash (codes "null") (without_sleep e.number s))
+    (few-woken (c + 1) e.run e.hash (codes "null") (without_sleep e.number s) left)
 few-fire c (wait_end e) s there h =
     let less = one-goes (λ (o : Waiting). o.wait.number) e s.waits there in
     let left : AreFew (c + 1) (without_wait e.wait.number s) = omega (arith, h, less) in
     kept-discover (AreFew (c + 1)) (keeps-few (c + 1))
-    (record_result e.wait.run e.hash (codes "{\"data\":null}") (without_wait e.wait.number s)) left
+    (wake_step e.wait.run e.hash (codes "{\"data\":null}") (without_wait e.wait.number s))
+    (few-woken (c + 1) e.wait.run e.hash (codes "{\"data\":null}") (without_wait e.wait.number s) left)
 few-fire c (invocation_end e) s there h =
     let less = one-goes (λ (o : Invocation). o.number) e s.invocations there in
     let left : AreFew (c + 1) (without_invocation e.number s) = omega (arith, h, less) in
     kept-discover (AreFew (c + 1)) (keeps-few (c + 1))
-    (record_result e.run e.hash timed_out (without_invocation e.number s)) left
+    (wake_step e.run e.hash timed_out (without_invocation e.number s))
+    (few-woken (c + 1) e.run e.hash timed_out (without_invocation e.number s) left)
 few-fire c (window_end w) s there h =
     let less = one-goes windows.number_of w s.windows there in
     let left : AreFew (c + 1) (without_window (windows.number_of w) s) = omega (arith, h, less) in

@@ -7,7 +7,7 @@ use Rattle.kinds.specs.declared.window.Window.{Window}
 use Rattle.functions.specs.declared.entry.FunctionEntry.{FunctionEntry}
 use Rattle.run_model.specs.Events.{end_wait}
 use Rattle.run_model.specs.Making.{discover, make_run}
-use Rattle.run_model.specs.Recording.{error_result, record_result}
+use Rattle.run_model.specs.Recording.{error_result, wake_step}
 use Rattle.run_model.specs.Replies.{fail_call}
 use Rattle.run_model.specs.State.{State, Issue, Sleep, Waiting, Invocation, at_moment, function_at}
 
@@ -92,9 +92,9 @@ end_window w s = make_found (function_at (windows.version_of w) s) w (without_wi
 
 -- the child of an invocation goes on
 abbrev pub fire : Timed → State → State
-fire (sleep_end e) s = discover (record_result e.run e.hash (codes "null") (without_sleep e.number s))
+fire (sleep_end e) s = discover (wake_step e.run e.hash (codes "null") (without_sleep e.number s))
 fire (wait_end e) s = discover (end_wait (codes "{\"data\":null}") e s)
-fire (invocation_end e) s = discover (record_result e.run e.hash timed_out (without_invocation e.number s))
+fire (invocation_end e) s = discover (wake_step e.run e.hash timed_out (without_invocation e.number s))
 fire (window_end w) s = end_window w s
 fire (rule_end e) s = without_rule e.number s
 fire (call_limit i) s = fail_call i (error_object (codes "call limit")) s

@@ -2,7 +2,7 @@
 use Rattle.std.specs.Prelude.{ℕ, ◌==◌, Bool, true, false, not, List, [], ◌∷◌, ◌++◌, filter, take, length, codes, Option, Some, None, bytes_eq}
 use Rattle.kinds.specs.ErrorObject.{error_object}
 use Rattle.kinds.specs.Queue.{without_run}
-use Rattle.kinds.specs.RunSteps.{is_recorded}
+use Rattle.kinds.specs.RunSteps.{is_pending}
 use Rattle.kinds.specs.declared.event.EventIn.{EventIn}
 use Rattle.kinds.specs.declared.store.Parent.{Parent}
 use Rattle.kinds.specs.declared.store.Rule.{Rule}
@@ -56,17 +56,17 @@ end_run r status s = record s {
 abbrev pub without_invocation_of : Parent → State → State
 without_invocation_of p s = record s { invocations = filter (λ i. not (is_invocation_of p i)) s.invocations }
 
--- the step is recorded already, where the invocation had an end of its own
+-- the step waits no more, where the invocation had an end of its own
 abbrev pub record_at_parent : Discovery → Parent → List ℕ → Bool → State → State
-record_at_parent discovery p result true s = s
-record_at_parent discovery p result false s =
+record_at_parent discovery p result true s =
     discovered discovery (record_result p.run p.hash result (without_invocation_of p s))
+record_at_parent discovery p result false s = s
 
 abbrev pub tell : Discovery → Parent → List ℕ → Option Run → State → State
 tell discovery p result None s = s
-tell discovery p result (Some r) s = record_at_parent discovery p result (is_recorded p.hash r.steps) s
+tell discovery p result (Some r) s = record_at_parent discovery p result (is_pending p.hash r.steps) s
 
--- A run that invoked this one, and has not ended, records its result.
+-- A run that invoked this one, and waits for it still, records its result.
 abbrev pub tell_parent : Discovery → Option Parent → List ℕ → State → State
 tell_parent discovery None result s = s
 tell_parent discovery (Some p) result s = tell discovery p result (live_run p.run s) s

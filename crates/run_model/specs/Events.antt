@@ -20,7 +20,7 @@ use Rattle.functions.specs.declared.entry.FunctionEntry.{FunctionEntry}
 use Rattle.event_keys.specs.Expressions.{holds_over, key_value}
 use Rattle.run_model.specs.Expressions.{truth_in}
 use Rattle.run_model.specs.Making.{make_run}
-use Rattle.run_model.specs.Recording.{Discovery, data_result, discovered, record_result}
+use Rattle.run_model.specs.Recording.{Discovery, data_result, discovered, wake_step}
 use Rattle.run_model.specs.State.{State, Waiting}
 
 -- ## A number for an event
@@ -48,7 +48,7 @@ without_wait number s = record s { waits = filter (λ w. not (has_wait number w)
 
 -- a wait is over with a result
 abbrev pub end_wait : List ℕ → Waiting → State → State
-end_wait result w s = record_result w.wait.run w.hash result (without_wait w.wait.number s)
+end_wait result w s = wake_step w.wait.run w.hash result (without_wait w.wait.number s)
 
 abbrev pub wake_found : Discovery → List ℕ → Option Waiting → State → State
 wake_found discovery result None s = s

@@ -1,5 +1,5 @@
 -- Making a run: its rules, and its first item.
-use Rattle.std.specs.Prelude.{ℕ, ◌+◌, Bool, true, false, not, ◌&&◌, ◌||◌, List, [], ◌∷◌, ◌++◌, Option, Some, None, if◌then◌else◌}
+use Rattle.std.specs.Prelude.{ℕ, ℤ, pos, ◌*ℤ◌, ◌-ℤ◌, ◌+◌, ◌==◌, Bool, true, false, not, ◌&&◌, ◌||◌, List, [], ◌∷◌, ◌++◌, codes, Option, Some, None, if◌then◌else◌, bytes_eq}
 use Rattle.std.specs.List.{list_any}
 use Rattle.std.specs.Option.{option_map}
 use Rattle.kinds.specs.Queue.{insert_item}
@@ -10,6 +10,7 @@ use Rattle.kinds.specs.declared.store.Parent.{Parent}
 use Rattle.kinds.specs.declared.store.Rule.{Rule}
 use Rattle.functions.specs.declared.entry.FunctionEntry.{FunctionEntry}
 pub use Rattle.admission.specs.Items.{is_item_of}
+pub use Rattle.event_texts.specs.Texts.{text_or_none}
 pub use Rattle.runs.specs.Changes.{step_target}
 pub use Rattle.runs.specs.Runs.{first_of, score_of}
 use Rattle.event_keys.specs.Buckets.{bucket_of}
@@ -106,10 +107,6 @@ abbrev pub add_run : Run → ℕ → List ℕ → List CancelEntry → State →
 add_run r first event cancels s =
     queue_new r step_target
     (add_rules r first event cancels (record s { runs = s.runs + 1; live = s.live ++ r ∷ [] }))
-
-abbrev pub text_or_none : Option EventText → List ℕ
-text_or_none None = []
-text_or_none (Some e) = e.text
 
 abbrev pub make_run_over : FunctionEntry → List ℕ → List ℕ → Option Parent → State → State
 make_run_over f events event parent s =

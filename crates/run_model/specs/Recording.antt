@@ -1,9 +1,9 @@
 -- What a run records.
-use Rattle.std.specs.Prelude.{ℕ, List, ◌++◌, codes}
+use Rattle.std.specs.Prelude.{ℕ, true, false, List, ◌++◌, codes}
 pub use Rattle.admission.specs.Items.{without_item}
-pub use Rattle.runs.specs.Changes.{changed, error_result, most_bytes, record_in, result_for}
+pub use Rattle.runs.specs.Changes.{changed, error_result, is_pending_in, most_bytes, record_in, result_for}
 use Rattle.run_model.specs.Making.{discover}
-use Rattle.run_model.specs.State.{State, Run}
+use Rattle.run_model.specs.State.{State, Run, live_run}
 
 -- ## Results
 
@@ -20,6 +20,11 @@ change_run number f s = record s { live = changed number f s.live }
 abbrev pub record_result : ℕ → List ℕ → List ℕ → State → State
 record_result run name result s =
     change_run run (record_in name result) (record s { items = without_item run name s.items })
+
+-- What a step waits for has come: it is recorded, where the run has not ended and the step waits still.
+abbrev pub wake_step : ℕ → List ℕ → List ℕ → State → State
+wake_step run name result s = elim (is_pending_in name (live_run run s)) as (λ _. State)
+    [ true ↦ record_result run name result s | false ↦ s ]
 
 -- ## When it is found out what comes next
 

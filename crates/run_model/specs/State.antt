@@ -1,17 +1,24 @@
 -- The state of the documented machine with runs: plain lists in order of making, and the counts of what was
 -- named.
-use Rattle.std.specs.Prelude.{ℕ, ◌+◌, ◌==◌, Bool, ◌||◌, List, [], ◌∷◌, ◌++◌, map, filter, find, length, min, max, Option}
+use Rattle.std.specs.Prelude.{ℕ, ℤ, ◌+◌, ◌-◌, ◌==◌, Bool, ◌||◌, List, [], ◌∷◌, ◌++◌, map, filter, find, length, take, drop, min, max, Option}
 use Rattle.std.specs.List.{list_any}
 use Rattle.kinds.specs.Moments.{last_moment}
+use Rattle.kinds.specs.RunSteps.{RunSteps}
 use Rattle.kinds.specs.Cells.{later_starts}
 use Rattle.kinds.specs.Seen.{remembered, weight_of}
 use Rattle.kinds.specs.Windows as windows
+use Rattle.kinds.specs.declared.cell.Cell.{Cell}
+use Rattle.kinds.specs.declared.cell.CellLimit.{CellLimit}
 use Rattle.kinds.specs.declared.cell.IssueEntry.{IssueEntry}
 use Rattle.kinds.specs.declared.cell.StartEntry.{StartEntry}
 use Rattle.kinds.specs.declared.limits.Limits.{Limits}
 use Rattle.kinds.specs.declared.seen.SeenEntry.{SeenEntry}
 use Rattle.kinds.specs.declared.store.Item.{Item}
+use Rattle.kinds.specs.declared.store.Parent.{Parent}
 use Rattle.kinds.specs.declared.store.Rule.{Rule}
+use Rattle.kinds.specs.declared.store.RunStatus.{RunStatus}
+use Rattle.kinds.specs.declared.store.StepEntry.{StepEntry}
+use Rattle.kinds.specs.declared.store.Wait.{Wait}
 use Rattle.kinds.specs.declared.window.Window.{Window}
 use Rattle.functions.specs.declared.entry.FunctionEntry.{FunctionEntry}
 pub use Rattle.admission.specs.Issues.{has_open_call, in_cells}
@@ -19,15 +26,12 @@ pub use Rattle.admission.specs.declared.issue.Issue.{Issue}
 pub use Rattle.awaited.specs.Entries.{Waiting}
 pub use Rattle.awaited.specs.declared.entries.Invocation.{Invocation}
 pub use Rattle.awaited.specs.declared.entries.Sleep.{Sleep}
+pub use Rattle.event_texts.specs.Texts.{bytes_of_texts}
+pub use Rattle.event_texts.specs.declared.texts.EventText.{EventText}
 use Rattle.runs.specs.Ended as ended
 pub use Rattle.runs.specs.Ended.{last_or}
 pub use Rattle.runs.specs.Runs.{Run, bytes_of_results, bytes_of_steps, is_in}
 pub use Rattle.runs.specs.declared.ended.EndedRun.{EndedRun}
-
--- an accepted event: its number, and the JSON text that it goes on as
-pub record EventText : Type 0 where
-  pub number : ℕ
-  pub text : List ℕ
 
 -- ## The state
 
@@ -139,10 +143,6 @@ abbrev pub is_used : State → EventText → Bool
 is_used s e =
     list_any (λ (r : Run). is_in e.number r.events) s.live
     || list_any (λ w. is_in e.number (windows.events_of w)) s.windows
-
-abbrev pub bytes_of_texts : List EventText → ℕ
-bytes_of_texts [] = 0
-bytes_of_texts (e ∷ es) = length e.text + bytes_of_texts es
 
 -- the bytes that are kept: the events that live runs and windows name, the results of live runs, and
 -- remembered ids

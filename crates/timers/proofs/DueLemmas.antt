@@ -6,7 +6,7 @@ use Rattle.std.specs.Option.{option_map, IfSome}
 use Rattle.std.specs.Ordering.{is_lt}
 use Rattle.std.proofs.lemmas.Bool.{cond-true, cond-false}
 use Rattle.std.proofs.lemmas.Bool.Decides.{nat_tests}
-use Rattle.lists.specs.Entries.{has, without, key_of, pair_cmp, AreApart}
+use Rattle.lists.specs.Entries.{has, without, key_of, pair_cmp, insert_in, AreApart}
 use Rattle.lists.proofs.Elements.{all-filter, all-weaker}
 use Rattle.lists.proofs.Keyed.{cond_none, filter_none, find_without}
 use Rattle.kinds.specs.Stores.{due_moment, due_number, due_run, due_at, insert_due}
@@ -163,6 +163,19 @@ module _ {X : Type 0} (due : X → Option ℕ) (number run : X → ℕ) where
       by_test : (b : Bool) → cond b (put_due (due x) (number x) (run x) (dues_of due number run (filter q xs))) (dues_of due number run (filter q xs)) ≡ dues_of due number run (cond b (x ∷ filter q xs) (filter q xs))
       by_test true = refl
       by_test false = refl
+
+  -- an entry comes in its place
+  pub dues_inserted : (rank : X → ℕ) (x : X) (xs : List X) → find (has number (number x)) xs ≡ None → dues_of due number run (insert_in rank number x xs) ≡ put_due (due x) (number x) (run x) (dues_of due number run xs)
+  dues_inserted rank x [] none = refl
+  dues_inserted rank x (e ∷ es) none = let parts = cond_none (number x == number e) e (find (has number (number x)) es) none in by_place (is_lt (pair_cmp (key_of rank number x) (key_of rank number e))) (flip (number x) (number e) parts.0) (dues_inserted rank x es parts.1)
+    where
+      flip : (n m : ℕ) → (n == m) ≡ false → (m == n) ≡ false
+      flip n m h = grind (arith, nat_tests)
+
+      by_place : (b : Bool) → (number e == number x) ≡ false → dues_of due number run (insert_in rank number x es) ≡ put_due (due x) (number x) (run x) (dues_of due number run es)
+          → dues_of due number run (cond b (x ∷ e ∷ es) (e ∷ insert_in rank number x es)) ≡ put_due (due x) (number x) (run x) (put_due (due e) (number e) (run e) (dues_of due number run es))
+      by_place true n more = refl
+      by_place false n more = ap (put_due (due e) (number e) (run e)) more ∙ put_swap (due e) (due x) (number e) (run e) (number x) (run x) (dues_of due number run es) n
 
   -- an entry goes by its number
   pub dues_without : (n : ℕ) (xs : List X) → without due_number n (dues_of due number run xs) ≡ dues_of due number run (without number n xs)

@@ -1,0 +1,7 @@
+use Rattle.kinds.specs.Windows.{number_of}
+use Rattle.awaited.specs.Named.{window_due, no_run}
+use Rattle.awaited.proofs.BehindLemmas.{due_first}
+use Rattle.awaited.proofs.windows.WindowSet.first.Goals as goal
+
+pub returns : goal.returns
+returns c = due_first window_due number_of no_run _ _ _ _ c.self.invariant.dues c.self.invariant.numbers c.self.view_is c.first.ensures
