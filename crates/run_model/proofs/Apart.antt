@@ -386,7 +386,7 @@ aside-offered i f r value event s h =
     aside-choice (takes_number r (window_of f.version value s) (window_after f r value event s)) s.entries
     s.items i h
 
-keeps-aside : (i : Item) → Keeps (IsAside i)
+pub keeps-aside : (i : Item) → Keeps (IsAside i)
 keeps-aside i = freely (IsAside i) (record {
   accepts = λ event id s new h. aside-accepted i event id s h;
   starts = λ f event parent s there given h. h;
