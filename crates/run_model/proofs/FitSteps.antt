@@ -67,7 +67,7 @@ conditions-left s h =
           }) h.conditions_fit.each_rule;
     }
 
-still-function : (f : FunctionEntry) (fs retired : List FunctionEntry) (test : FunctionEntry → Bool)
+pub still-function : (f : FunctionEntry) (fs retired : List FunctionEntry) (test : FunctionEntry → Bool)
     → IsIn f (fs ++ filter test retired) → IsIn f (fs ++ retired)
 still-function f fs retired test there = by_list (in-either f fs (filter test retired) there)
   where

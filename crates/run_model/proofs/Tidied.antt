@@ -19,19 +19,19 @@ use Rattle.run_model.proofs.WaitingSteps.{waits-step}
 
 -- ## Lists that were filtered
 
-filter-all : {X : Type 0} (p : X → Bool) (xs : List X) → AllByRecursion (λ x. p x ≡ true) xs
+pub filter-all : {X : Type 0} (p : X → Bool) (xs : List X) → AllByRecursion (λ x. p x ≡ true) xs
     → filter p xs ≡ xs
 filter-all p [] h = refl
 filter-all p (x ∷ xs) h = rw h.0 (ap (λ ys. x ∷ ys) (filter-all p xs h.1))
 
-filter-again : {X : Type 0} (p : X → Bool) (xs : List X) → filter p (filter p xs) ≡ filter p xs
+pub filter-again : {X : Type 0} (p : X → Bool) (xs : List X) → filter p (filter p xs) ≡ filter p xs
 filter-again p xs = filter-all p (filter p xs) (filter-passes p xs)
 
 -- what is in front of so many is taken, and what is behind is left
-take-front : {X : Type 0} (xs ys : List X) (n : ℕ) → n ≡ length xs → take n (xs ++ ys) ≡ xs
+pub take-front : {X : Type 0} (xs ys : List X) (n : ℕ) → n ≡ length xs → take n (xs ++ ys) ≡ xs
 take-front xs ys n e = rw e (take-append_seam xs ys)
 
-drop-front : {X : Type 0} (xs ys : List X) (n : ℕ) → n ≡ length xs → drop n (xs ++ ys) ≡ ys
+pub drop-front : {X : Type 0} (xs ys : List X) (n : ℕ) → n ≡ length xs → drop n (xs ++ ys) ≡ ys
 drop-front xs ys n e = rw e (drop-append_seam xs ys)
 
 length-filtered : {X : Type 0} (p : X → Bool) (xs : List X) → length (filter p xs) ≤ length xs
@@ -44,7 +44,7 @@ length-filtered p (x ∷ xs) = by_test (p x) (length-filtered p xs)
     by_test false more = omega (arith, more)
 
 -- so many more than the most are in front
-front-of : {X : Type 0} (p : X → Bool) (most : ℕ) (xs : List X)
+pub front-of : {X : Type 0} (p : X → Bool) (most : ℕ) (xs : List X)
     → length (last_or p most xs) - most ≡ length (filter p (take (length xs - most) xs))
 front-of {X = X} p most xs =
     let n : ℕ = length xs - most in
