@@ -49,7 +49,7 @@ number-there items None number h e = absurd (cc)
 number-there items (Some i) number h e =
     let same : i.number ≡ number = cc in subst (λ n. list_any (has_number n) items ≡ true) same h
 
-none-in-empty : (passes : Item → Bool) (items : List Item) → length items ≤ 0
+pub none-in-empty : (passes : Item → Bool) (items : List Item) → length items ≤ 0
     → option_map number_of (least passes items) ≡ None
 unfolding least
 none-in-empty passes [] h = refl
@@ -76,10 +76,10 @@ falls-found : (number : ℕ) (found : Option Item) (t : Settled)
 falls-found number None t h there = absurd h
 falls-found number (Some i) t h there = falls-with number i (live_run i.run t.state) t h there
 
-abbrev may_be_issued : State → Item → Bool
+abbrev pub may_be_issued : State → Item → Bool
 may_be_issued s = is_admissible (admits (issue_entries s) s.starts s.moment) s.moment
 
-falls : (number : ℕ) (t : Settled) → next_issued t.state ≡ Some number
+pub falls : (number : ℕ) (t : Settled) → next_issued t.state ≡ Some number
     → length (issue_found (item_at number t.state) t).state.items < length t.state.items
 falls number t e =
     let passes = may_be_issued t.state in
