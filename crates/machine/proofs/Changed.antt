@@ -106,6 +106,7 @@ module _ (number : ℕ) (f : Run → Run) (keeps : KeepsNames f) where
         (λ (r : Run). find (has ended_number r.number) ended ≡ None) number f live
         (λ r none. ap (λ n. find (has ended_number n) ended)
         (same-one (λ (q : Run). q.number) f keeps.number (number == r.number) r) ∙ none) h.once;
+    own_calls = h.own_calls;
   }
 
   pub order-changed : (live : List Run) → IsStrictlySortedBy nat_cmp (map run_number live)

@@ -1,5 +1,5 @@
 -- What holds beside the documented state: what is noted of what a step touched, and what is counted.
-use Rattle.std.specs.Prelude.{ℕ, ◌≡◌, ◌≤◌, ◌-◌, ◌==◌, Bool, true, false, not, ◌&&◌, ◌||◌, List, [], ◌∷◌, map, filter, find, take, length, None}
+use Rattle.std.specs.Prelude.{ℕ, ◌≡◌, ◌≢◌, ◌≤◌, ◌-◌, ◌==◌, Bool, true, false, not, ◌&&◌, ◌||◌, List, [], ◌∷◌, map, filter, find, take, length, None}
 use Rattle.std.specs.List.{AllByRecursion, list_any}
 use Rattle.std.specs.List.Sorted.{IsStrictlySortedBy}
 use Rattle.std.specs.Ordering.{nat_cmp}
@@ -12,6 +12,7 @@ use Rattle.runs.specs.Ended.{ended_number}
 use Rattle.runs.specs.Runs.{run_number}
 use Rattle.run_model.specs.Fit.{IsFit}
 use Rattle.run_model.specs.Making.{is_item_of, step_target}
+use Rattle.run_model.specs.Sound.{ArePairwise}
 use Rattle.run_model.specs.State.{State, Run, Issue, EventText, EndedRun, has_open_call, is_in}
 use Rattle.machine.specs.Numbers.{has_number}
 use Rattle.machine.specs.View.{state_of}
@@ -78,6 +79,7 @@ pub record AreEndsRight (runs : ℕ) (live closing : List Run) (ended : List End
       AllByRecursion (λ (e : EndedRun). IsClosing issues touched e.run) (take (length ended - 1000) ended)
   pub given : AllByRecursion (λ (e : EndedRun). e.run ≤ runs) ended
   pub once : AllByRecursion (λ (r : Run). find (has ended_number r.number) ended ≡ None) live
+  pub own_calls : ArePairwise (λ (i later : Issue). i.call ≢ later.call) issues
 
 -- ## The parts
 
