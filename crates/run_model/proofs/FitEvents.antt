@@ -101,7 +101,7 @@ fit-event event seen s low h =
       apart = h.windows_fit.apart;
     })
 
-all-noted : (P : SeenEntry → Type 0) (entry : SeenEntry) (es : List SeenEntry) → P entry
+pub all-noted : (P : SeenEntry → Type 0) (entry : SeenEntry) (es : List SeenEntry) → P entry
     → AllByRecursion P es → AllByRecursion P (insert_seen entry es)
 all-noted P entry [] own h = (own, tt)
 all-noted P entry (e ∷ es) own h =

@@ -105,7 +105,7 @@ joined-dated (rule.Debounce d) event t (window.Batch number version value es due
 joined-dated (rule.Batch b) event t (window.Debounce number version value last first due) h = h
 joined-dated (rule.Batch b) event t (window.Batch number version value es due) h = h
 
-joined-number : (r : WindowRule) (event t : ℕ) (w : Window)
+pub joined-number : (r : WindowRule) (event t : ℕ) (w : Window)
     → windows.number_of (joined r event t w) ≡ windows.number_of w
 joined-number (rule.Debounce d) event t (window.Debounce number version value last first due) = refl
 joined-number (rule.Debounce d) event t (window.Batch number version value es due) = refl
@@ -153,7 +153,7 @@ opened-fit events entries versions (rule.Debounce d) version value event t a b c
 opened-fit events entries versions (rule.Batch d) version value event t a b c =
     record { number = omega arith; version = a; named = (b, tt); dated = tt }
 
-opened-version : (r : WindowRule) (version : ℕ) (value : List ℕ) (event t number : ℕ)
+pub opened-version : (r : WindowRule) (version : ℕ) (value : List ℕ) (event t number : ℕ)
     → windows.version_of (opened r version value event t number) ≡ version
 opened-version (rule.Debounce d) version value event t number = refl
 opened-version (rule.Batch b) version value event t number = refl
@@ -311,7 +311,7 @@ after-given f r value event s None given known =
 after-given f r value event s (Some w) given known =
     joined-given s.events r event s.moment w given (known w refl).fits.named
 
-full-keeps : (there : Bool) (w : Window) (s : State)
+pub full-keeps : (there : Bool) (w : Window) (s : State)
     → IsFit (record s { windows = others (windows.version_of w) (windows.value_of w) s.windows })
     → IsFit (with_after true there w s)
 full-keeps true w s h = h
