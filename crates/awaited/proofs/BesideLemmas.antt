@@ -1,8 +1,8 @@
 -- The waits with the names of their steps.
-use Rattle.std.proofs.Common.{◌≡◌, ℕ, ◌<◌, Bool, true, false, not, cond, List, [], ◌∷◌, ◌++◌, Some, None, Option, refl, sym, ap, ◌∙◌, map, subst}
+use Rattle.std.proofs.Common.{◌≡◌, ℕ, ◌<◌, ◌==◌, Bool, true, false, not, cond, List, [], ◌∷◌, ◌++◌, Some, None, Option, refl, sym, ap, ◌∙◌, map, subst}
 use Rattle.std.specs.List.{find, filter, AllByRecursion}
 use Rattle.std.specs.Option.{option_map}
-use Rattle.lists.specs.Entries.{has, without}
+use Rattle.lists.specs.Entries.{has, without, AreApart}
 use Rattle.kinds.specs.Stores.{wait_number, wait_run, insert_wait}
 use Rattle.kinds.specs.declared.store.Wait.{Wait}
 use Rattle.timers.specs.Dues.{DueEntry, least_due, as_due, seen_as}
@@ -30,6 +30,18 @@ module _ {X Y : Type 0} (f : X → Y) where
       by_test : (b : Bool) → cond b (Some (f x)) (option_map f (find (λ y. p (f y)) xs)) ≡ option_map f (cond b (Some x) (find (λ y. p (f y)) xs))
       by_test true = refl
       by_test false = refl
+
+  none_mapped : (o : Option X) → option_map f o ≡ None → o ≡ None
+  none_mapped None h = refl
+  none_mapped (Some x) h = cc
+
+  pub apart_mapped : (number : Y → ℕ) (xs : List X) → AreApart number (map f xs) → AreApart (λ x. number (f x)) xs
+  apart_mapped number [] a = tt
+  apart_mapped number (x ∷ xs) a = (
+    none_mapped (find (λ y. number (f x) == number (f y)) xs)
+        (sym (find_map_same (has number (number (f x))) xs) ∙ a.0),
+    apart_mapped number xs a.1,
+  )
 
   pub map_last : (x : X) (xs : List X) → map f xs ++ f x ∷ [] ≡ map f (xs ++ x ∷ [])
   map_last x [] = refl
@@ -89,6 +101,9 @@ module _ (ws : List Wait) (ss : List WaitStep) (b : AreBeside ws ss) where
 
   pub step_found : (n : ℕ) → find (has step_number n) ss ≡ option_map wait_step (find (has waiting_number n) (beside ws ss))
   step_found n = ap (find (has step_number n)) b.steps ∙ find_map_same wait_step (has step_number n) (beside ws ss)
+
+  pub steps_apart : AreApart step_number ss → AreApart waiting_number (beside ws ss)
+  steps_apart a = apart_mapped wait_step step_number (beside ws ss) (subst (AreApart step_number) b.steps a)
 
   pub step_first : option_map (as_due step_number step_run) (least_due step_due step_number ss) ≡ option_map (as_due waiting_number waiting_run) (least_due waiting_due waiting_number (beside ws ss))
   step_first =

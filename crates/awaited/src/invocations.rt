@@ -151,8 +151,9 @@ impl Invocations {
     /// The least due of the invocations that have one, with the invocation's number and run; of those that
     /// tie the one of the least number.
     pub fn first(&self) -> Option<Due>
-        ensures { result ≡ option_map (as_due invocation_number invocation_run)
+        ensures least { result ≡ option_map (as_due invocation_number invocation_run)
             (least_due invocation_due invocation_number self.now) }
+        ensures apart { AreApart invocation_number self.now }
     {
         self.invocations.first()
     }

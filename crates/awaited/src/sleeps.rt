@@ -2,7 +2,7 @@
 ghost use Rattle.std.specs.Prelude.{◌≡◌, ◌<◌, ◌++◌, ◌∷◌, [], find, OnOk, OnErr};
 ghost use Rattle.std.specs.Option.{option_map, option_copied};
 ghost use Rattle.std.specs.List.{AllByRecursion};
-ghost use Rattle.lists.specs.Entries.{has, without};
+ghost use Rattle.lists.specs.Entries.{has, without, AreApart};
 ghost use Rattle.timers.specs.Dues.{as_due, least_due};
 ghost use Rattle.awaited.specs.Entries.{sleep_number, sleep_run, sleep_due};
 
@@ -73,8 +73,9 @@ impl Sleeps {
 
     /// The least due, with the sleep's number and run; of those that tie the one of the least number.
     pub fn first(&self) -> Option<Due>
-        ensures { result
+        ensures least { result
             ≡ option_map (as_due sleep_number sleep_run) (least_due sleep_due sleep_number self.now) }
+        ensures apart { AreApart sleep_number self.now }
     {
         self.sleeps.first()
     }

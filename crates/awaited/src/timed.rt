@@ -2,7 +2,7 @@
 ghost use Rattle.std.specs.Prelude.{◌≡◌, ◌<◌, ◌++◌, ◌∷◌, [], ℕ, Option, find, OnOk, OnErr, IfSome};
 ghost use Rattle.std.specs.Option.{option_map, option_copied, IfNone};
 ghost use Rattle.std.specs.List.{AllByRecursion};
-ghost use Rattle.lists.specs.Entries.{has, without};
+ghost use Rattle.lists.specs.Entries.{has, without, AreApart};
 ghost use Rattle.ordered.specs.Indexes.{IsTakenOf};
 ghost use Rattle.timers.specs.Dues.{as_due, least_due};
 
@@ -109,8 +109,9 @@ impl<E: Timed> TimedList<E> {
     /// The least due of the entries that have one, with the entry's number and run; of those that tie
     /// the one of the least number.
     pub fn first(&self) -> Option<Due>
-        ensures { result
+        ensures least { result
             ≡ option_map (as_due E.number_of E.run_of) (least_due E.due_of E.number_of self.now) }
+        ensures apart { AreApart E.number_of self.now }
     {
         self.entries.order();
         first_of(&self.dues)

@@ -2,7 +2,7 @@
 ghost use Rattle.std.specs.Prelude.{◌≡◌, ◌<◌, ◌≤◌, ◌+◌, ◌++◌, ◌∷◌, [], find, map, OnOk, OnErr, IfOk};
 ghost use Rattle.std.specs.Option.{option_map, option_copied};
 ghost use Rattle.std.specs.List.{AllByRecursion};
-ghost use Rattle.lists.specs.Entries.{has, without};
+ghost use Rattle.lists.specs.Entries.{has, without, AreApart};
 ghost use Rattle.kinds.specs.Stores.{wait_number, wait_condition, woken, AreBucketsRight};
 ghost use Rattle.matching.specs.Met.{asked_count};
 ghost use Rattle.timers.specs.Dues.{as_due, least_due};
@@ -99,8 +99,9 @@ impl Waits {
 
     /// The least due, with the wait's number and run; of those that tie the one of the least number.
     pub fn first(&self) -> Option<Due>
-        ensures { result ≡ option_map (as_due waiting_number waiting_run)
+        ensures least { result ≡ option_map (as_due waiting_number waiting_run)
             (least_due waiting_due waiting_number self.now) }
+        ensures apart { AreApart waiting_number self.now }
     {
         self.steps.first()
     }

@@ -2,6 +2,7 @@
 ghost use Rattle.std.specs.Prelude.{◌≡◌, ◌≤◌, [], true, find, None, IfOk, OnOk};
 ghost use Rattle.std.specs.Option.{option_map, option_copied};
 ghost use Rattle.std.specs.List.{list_any};
+ghost use Rattle.lists.specs.Entries.{AreApart};
 ghost use Rattle.kinds.specs.Windows.{number_of, has_number, is_of, without_number, has_room, fired, IsRule, last_moment};
 ghost use Rattle.debounce_batch.specs.Events.{window_after, after_offer};
 ghost use Rattle.timers.specs.Dues.{as_due, least_due};
@@ -125,7 +126,8 @@ impl WindowSet {
 
     /// The least due, with the window's number; of those that tie the one of the least number. The run is 0.
     pub fn first(&self) -> Option<Due>
-        ensures { result ≡ option_map (as_due number_of no_run) (least_due window_due number_of self.now) }
+        ensures least { result ≡ option_map (as_due number_of no_run) (least_due window_due number_of self.now) }
+        ensures apart { AreApart number_of self.now }
     {
         self.names.first()
     }
