@@ -191,11 +191,11 @@ fit-invocations test s h = fit-times s.sleeps (filter test s.invocations) s
 
 -- ## Waits and rules
 
-first-given : (count : ℕ) (ns : List ℕ) → AreGiven count ns → first_of ns ≤ count
+pub first-given : (count : ℕ) (ns : List ℕ) → AreGiven count ns → first_of ns ≤ count
 first-given count [] h = omega arith
 first-given count (n ∷ ns) h = h.0
 
-bucket-found : (cond : Option (List ℕ)) (found : Option EventText)
+pub bucket-found : (cond : Option (List ℕ)) (found : Option EventText)
     → IfSome found (λ e. bucket_of cond (text_or_none found) ≡ bucket_of cond e.text)
 bucket-found cond None = tt
 bucket-found cond (Some e) = refl
