@@ -329,7 +329,7 @@ pub apart-tidied : (s : State) → Beside [] s → Beside [] (tidied s)
 unfolding tidied
 apart-tidied s h = h
 
-apart-steps : (bound : ℕ) → KeepsSteps bound (λ input. Unit {0}) Beside
+pub apart-steps : (bound : ℕ) → KeepsSteps bound (λ input. Unit {0}) Beside
 apart-steps bound = record {
   calls = apart-calls;
   counts = λ s h. h;
