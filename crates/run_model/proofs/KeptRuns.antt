@@ -70,7 +70,7 @@ module _ (K : ℕ → List Run → Type 0) (stays : Stays K) where
   holds-accepted event None s h = h
   holds-accepted event (Some id) s h = h
 
-  keeps-runs : Keeps (Holds K)
+  pub keeps-runs : Keeps (Holds K)
   keeps-runs = freely (Holds K) (record {
     accepts = λ event id s new h. holds-accepted event id s h;
     starts = λ f event parent s there given h.

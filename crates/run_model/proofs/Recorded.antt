@@ -101,7 +101,7 @@ recorded-last number before r (first ∷ rs) differs h =
     [ true ↦ λ k. k | false ↦ recorded-last number before r rs differs ]) h
 
 -- no run of the number that ends is left
-found-ended : (number : ℕ) (rs : List Run)
+pub found-ended : (number : ℕ) (rs : List Run)
     → found number (filter (λ (r : Run). not (number == r.number)) rs) ≡ None
 found-ended number [] = refl
 found-ended number (r ∷ rs) =
