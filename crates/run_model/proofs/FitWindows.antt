@@ -301,7 +301,7 @@ fit-joined f r value event s may e h =
 
 -- ## A window that is full
 
-after-given : (f : FunctionEntry) (r : WindowRule) (value : List ℕ) (event : ℕ) (s : State)
+pub after-given : (f : FunctionEntry) (r : WindowRule) (value : List ℕ) (event : ℕ) (s : State)
     (before : Option Window) → event ≤ s.events
     → ((w : Window) → before ≡ Some w → IsBefore s.events s.entries s.versions f r w)
     → AreGiven s.events
