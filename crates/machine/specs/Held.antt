@@ -3,6 +3,7 @@ use Rattle.std.specs.Prelude.{ℕ, ◌≡◌, ◌≢◌, ◌≤◌, ◌-◌, ◌
 use Rattle.std.specs.List.{AllByRecursion, list_any}
 use Rattle.std.specs.List.Sorted.{IsStrictlySortedBy}
 use Rattle.std.specs.Ordering.{nat_cmp}
+use Rattle.kinds.specs.Moments.{last_moment}
 use Rattle.kinds.specs.Windows as windows
 use Rattle.kinds.specs.declared.store.Item.{Item}
 use Rattle.kinds.specs.declared.window.Window.{Window}
@@ -10,7 +11,7 @@ use Rattle.lists.specs.Entries.{has}
 use Rattle.functions.specs.declared.entry.FunctionEntry.{FunctionEntry}
 use Rattle.runs.specs.Ended.{ended_number}
 use Rattle.runs.specs.Runs.{run_number}
-use Rattle.run_model.specs.Fit.{IsFit}
+use Rattle.run_model.specs.Fit.{HasOwnNumbers, IsFit}
 use Rattle.run_model.specs.Making.{is_item_of, step_target}
 use Rattle.run_model.specs.Sound.{ArePairwise}
 use Rattle.run_model.specs.State.{State, Run, Issue, EventText, EndedRun, has_open_call, is_in}
@@ -89,7 +90,7 @@ pub record IsHeld (m : Parts) : Type 0 where
   pub events : AreEventsRight m.runs.live m.runs.closing m.windows m.texts.texts m.texts.counted m.loose.events
   pub versions : AreVersionsRight m.runs.live m.runs.closing m.windows m.versions.retired m.loose.versions
   pub ends : AreEndsRight m.counts.runs m.runs.live m.runs.closing m.ended m.admission.issues m.loose.runs
-  pub clock : m.admission.moment ≤ m.moment
+  pub clock : m.admission.moment ≤ last_moment
 
 -- the parts are those of a state now, and the moment of what may be issued is as before
 pub record Becomes (s : State) (old new : Parts) : Type 0 where
@@ -103,6 +104,11 @@ pub record IsAtRest (m : Parts) : Type 0 where
   pub wanting : m.wanting ≡ []
   pub loose : (m.loose.runs ≡ []) × (m.loose.events ≡ []) × (m.loose.versions ≡ [])
   pub now : m.admission.moment ≡ m.moment
+
+-- so is the machine between two inputs
+pub record IsReady (m : Parts) : Type 0 where
+  pub rest : IsAtRest m
+  pub apart : HasOwnNumbers (state_of m)
 
 -- nothing of events and versions is left to look at, and the rest is as before
 pub record IsUntouched (old new : Parts) : Type 0 where

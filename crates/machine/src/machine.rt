@@ -33,14 +33,14 @@ pub struct Machine {
 
 impl Model for Machine {
     ghost use Rattle.run_model.specs.State.{State};
-    ghost use Rattle.machine.specs.Held.{IsAtRest};
+    ghost use Rattle.machine.specs.Held.{IsReady};
     ghost use Rattle.machine.specs.View.{state_of};
 
     ghost Value = { State };
 
     ghost view = { λ m. state_of m.parts };
 
-    ghost invariant = { λ m. IsAtRest m.parts };
+    ghost invariant = { λ m. IsReady m.parts };
 }
 
 impl Machine {

@@ -3,7 +3,7 @@ ghost use Rattle.std.specs.Prelude.{◌≡◌, ◌++◌, ◌∷◌, [], IfOk, On
 ghost use Rattle.kinds.specs.Answer.{ids_answer};
 ghost use Rattle.kinds.specs.Cells.{IsStart};
 ghost use Rattle.kinds.specs.declared.out.Out.TheVariants.{Answer};
-ghost use Rattle.machine.specs.Held.{Becomes, IsAtRest, IsHeld};
+ghost use Rattle.machine.specs.Held.{Becomes, IsHeld, IsReady};
 ghost use Rattle.machine.specs.View.{state_of};
 ghost use Rattle.machine.specs.Words.{answering};
 ghost use Rattle.run_model.specs.Fit.{AreInRange, HasOwnNumbers, IsAside, IsInRange};
@@ -40,12 +40,12 @@ impl Machine {
 
 impl Parts {
     fn step<L: Ledger>(&mut self, input: Input, steps: &mut Steps<L>) -> Result<Items<Out>, Memory>
-        requires rest { IsAtRest self.old }
+        requires ready { IsReady self.old }
         requires accepted { Accepts (state_of self.old) input }
         requires ranges { IsInRange input }
         ensures outs { IfOk result (λ outs. outs ≡ (step (state_of self.old) input).outs) }
         ensures state { OnOk result (state_of self.new ≡ (step (state_of self.old) input).state) }
-        ensures rest { OnOk result (IsAtRest self.new) }
+        ensures ready { OnOk result (IsReady self.new) }
     {
         let mut outs = Items::new(self.alloc);
         let moment = self.moment.max(input.at().min(LAST_MOMENT));
