@@ -101,7 +101,6 @@ pub record Becomes (s : State) (old new : Parts) : Type 0 where
 -- nothing is left to look at
 pub record IsAtRest (m : Parts) : Type 0 where
   pub held : IsHeld m
-  pub wanting : m.wanting ≡ []
   pub loose : (m.loose.runs ≡ []) × (m.loose.events ≡ []) × (m.loose.versions ≡ [])
   pub now : m.admission.moment ≡ m.moment
 

@@ -10,7 +10,6 @@ use lists::Memory;
 impl Parts {
     pub(crate) fn tidy(&mut self) -> Result<(), Memory>
         requires held { IsHeld self.old }
-        requires wanting { self.old.wanting ≡ [] }
         requires now { self.old.admission.moment ≡ self.old.moment }
         ensures state { OnOk result (state_of self.new ≡ tidied (state_of self.old)) }
         ensures rest { OnOk result (IsAtRest self.new) }
