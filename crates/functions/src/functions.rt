@@ -112,6 +112,7 @@ impl Functions {
         ensures versions { IfOk result (λ r. r.versions ≡ versions + length (new_in app self)) }
         ensures modified { IfOk result (λ r.
             r.modified ≡ is_modified self (registered app versions self)) }
+        ensures replaced { IfOk result (λ r. r.replaced ≡ filter (λ f. not (stays app f)) self) }
     {
         let before = self.versions(alloc)?;
         let Sorted { kept, replaced } = self.sort(alloc, &app)?;
