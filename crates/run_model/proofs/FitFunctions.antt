@@ -17,7 +17,7 @@ use Rattle.run_model.proofs.Members.{in-all, in-back, in-either, in-filter, in-f
 
 -- ## Where a function of the lists after a registration comes from
 
-in-inserted : (f g : FunctionEntry) (fs : List FunctionEntry) → IsIn g (insert_by version_of f fs)
+pub in-inserted : (f g : FunctionEntry) (fs : List FunctionEntry) → IsIn g (insert_by version_of f fs)
     → (f ≡ g) ⊎ IsIn g fs
 in-inserted f g [] (inl same) = inl same
 in-inserted f g [] (inr there) = absurd there
@@ -37,7 +37,7 @@ in-inserted f g (e ∷ es) there =
     behind (inl same) next = inr (inl same)
     behind (inr more) next = moved (next more)
 
-in-inserted_all : (g : FunctionEntry) (fs es : List FunctionEntry) → IsIn g (insert_all fs es)
+pub in-inserted_all : (g : FunctionEntry) (fs es : List FunctionEntry) → IsIn g (insert_all fs es)
     → IsIn g fs ⊎ IsIn g es
 in-inserted_all g [] es there = inr there
 in-inserted_all g (f ∷ fs) es there = back (in-inserted_all g fs (insert_by version_of f es) there)
