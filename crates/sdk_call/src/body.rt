@@ -1,4 +1,4 @@
-ghost use Rattle.std.specs.Prelude.{◌≡◌, ◌≢◌, ◌++◌, ◌∷◌, [], IfOk, OnOk, codes, map, ◌==◌, if◌then◌else◌};
+ghost use Rattle.std.specs.Prelude.{◌≡◌, ◌++◌, ◌∷◌, [], IfOk, OnOk, codes, map, ◌==◌, if◌then◌else◌};
 ghost use Rattle.sdk_call.specs.Body.{body_of, context, first_of, parted, path_of, step_member};
 
 use crate::parts::{CallParts, CallText};
@@ -10,7 +10,6 @@ use std::alloc::Global;
 
 /// The path and the body of a call. The room of each is taken once.
 pub fn call_text(alloc: Global, parts: &CallParts<'_>) -> Result<CallText, Memory>
-    requires { parts.now.events.now ≢ [] }
     ensures path { IfOk result (λ text. text.path ≡ path_of parts.now) }
     ensures body { IfOk result (λ text. text.body ≡ body_of parts.now) }
 {
@@ -33,7 +32,6 @@ fn path_text(alloc: Global, parts: &CallParts<'_>) -> Result<Bytes, Memory>
 }
 
 fn body_text(alloc: Global, parts: &CallParts<'_>) -> Result<Bytes, Memory>
-    requires { parts.now.events.now ≢ [] }
     ensures { IfOk result (λ body. body ≡ body_of parts.now) }
 {
     let mut body = begun(alloc, body_room(parts), b"{\"ctx\":")?;
@@ -49,10 +47,12 @@ fn body_text(alloc: Global, parts: &CallParts<'_>) -> Result<Bytes, Memory>
 }
 
 pub(crate) fn first_event<'a>(events: &'a [&'a [u8]]) -> &'a [u8]
-    requires { events.now ≢ [] }
     ensures { result.now ≡ first_of (map (λ event. event.now) events.now) }
 {
-    events[0]
+    match events.first() {
+        Some(event) => event,
+        None => &[],
+    }
 }
 
 fn push_context(body: &mut Bytes, run_id: &[u8], attempt: u8, planned: bool) -> Result<(), Memory>

@@ -11,7 +11,7 @@ pub struct CallParts<'a> {
     pub attempt: u8,
     /// Whether a step of the run was planned.
     pub planned: bool,
-    /// The JSON texts of the run's events, in order, at least one.
+    /// The JSON texts of the run's events, in order. The first stands for itself too, or nothing where there is none.
     pub events: &'a [&'a [u8]],
     /// The recorded steps, in the order of recording.
     pub steps: &'a [StepEntry],

@@ -1,6 +1,6 @@
 //! Room for the texts of a call, in bytes, counted before any of it is taken. None where a `usize` can't
 //! count it: no memory has so much.
-ghost use Rattle.std.specs.Prelude.{◌≡◌, ◌≢◌, ◌≤◌, ◌<◌, ◌+◌, ◌^◌, ℕ, Bool, IfOk, IfSome, [], length, map};
+ghost use Rattle.std.specs.Prelude.{◌≡◌, ◌≤◌, ◌<◌, ◌+◌, ◌^◌, ℕ, Bool, IfOk, IfSome, length, map};
 ghost use Rattle.sdk_call.specs.Body.{body_of, call_path, context, parted, step_member};
 ghost use Rattle.sdk_call.specs.Head.{head, held, signature_line};
 
@@ -52,7 +52,6 @@ pub(crate) fn path_room(path: &[u8], query: &[u8], id: &[u8], target: &[u8]) -> 
 
 /// Room for a body.
 pub(crate) fn body_room(parts: &CallParts<'_>) -> Option<usize>
-    requires { parts.now.events.now ≢ [] }
     ensures { IfSome result (λ room. length (body_of parts.now) ≤ room) }
 {
     let context = context_room(&parts.run_id, parts.attempt)?;
