@@ -2,7 +2,7 @@
 ghost use Rattle.std.specs.Prelude.{◌≡◌, [], map, filter, find, length, None, true, false, cond, IfOk, OnOk, OnErr};
 ghost use Rattle.std.specs.List.{list_any};
 ghost use Rattle.std.specs.Option.{option_copied};
-ghost use Rattle.lists.specs.Entries.{has, without, insert_by};
+ghost use Rattle.lists.specs.Entries.{AreApart, has, without, insert_by};
 ghost use Rattle.runs.specs.Runs.{run_number, run_at, bytes_of_results, names_event, has_version};
 ghost use Rattle.runs.specs.Changes.{changed, want, called, record_in, with_plan, with_pending, naming_in, if_new, is_pending_in, keep_in, plan_in, pend_in};
 
@@ -84,6 +84,7 @@ impl RunList {
     pub(crate) fn remove(&mut self, number: u64) -> Option<Run>
         ensures value { result ≡ run_at number self.old }
         ensures left { self.new ≡ without run_number number self.old }
+        ensures apart { AreApart run_number self.old }
     {
         let run = self.runs.remove(&number)?;
         self.bytes -= run.bytes();

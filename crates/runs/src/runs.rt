@@ -1,7 +1,7 @@
 ghost use Rattle.std.specs.Prelude.{◌≡◌, ◌<◌, [], map, filter, length, None, cond, IfOk, OnOk, OnErr, ◌++◌, ◌∷◌};
 ghost use Rattle.std.specs.List.{AllByRecursion};
 ghost use Rattle.std.specs.Option.{option_copied};
-ghost use Rattle.lists.specs.Entries.{without};
+ghost use Rattle.lists.specs.Entries.{AreApart, without};
 ghost use Rattle.runs.specs.Runs.{no_runs, run_number, run_at, with_run, bytes_of_results, names_event};
 ghost use Rattle.runs.specs.Names.{is_used, is_named, is_version_named};
 ghost use Rattle.runs.specs.Changes.{changed, want, called, record_in, with_plan, with_pending, naming_in, if_new, is_pending_in, keep_in, plan_in, pend_in};
@@ -212,6 +212,7 @@ impl Runs {
         ensures value { result ≡ run_at number self.old.closing }
         ensures live { self.new.live ≡ self.old.live }
         ensures closing { self.new.closing ≡ without run_number number self.old.closing }
+        ensures apart { AreApart run_number self.old.closing }
     {
         self.closing.remove(number)
     }

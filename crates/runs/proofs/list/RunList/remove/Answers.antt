@@ -1,8 +1,8 @@
-use Rattle.std.proofs.Common.{◌-◌, ◌≤◌, List, [], ◌∷◌, ◌∙◌, ap, refl, arith}
+use Rattle.std.proofs.Common.{◌-◌, ◌≤◌, List, [], ◌∷◌, ◌∙◌, ap, refl, arith, subst}
 use Rattle.lists.proofs.Stored.{numbered_left}
-use Rattle.lists.specs.Entries.{without}
+use Rattle.lists.specs.Entries.{AreApart, without}
 use Rattle.runs.specs.Runs.{run_at, run_number}
-use Rattle.runs.proofs.Listed.{held_found, indexed_bytes, indexed_left}
+use Rattle.runs.proofs.Listed.{held_found, indexed_apart, indexed_bytes, indexed_left}
 use Rattle.runs.proofs.list.RunList.remove.Goals as goal
 
 pub returns-in_err-run-clause-value : goal.returns-in_err-run-clause-value
@@ -31,3 +31,13 @@ pub returns-clause-left : goal.returns-clause-left
 returns-clause-left c =
     (numbered_left run_number c.self.inside.runs.entries c.remove.new.self.entries c.args.number c.self.invariant.stored c.remove.ensures.entries c.remove.ensures.ordered).0
     ∙ ap (without run_number c.args.number) c.self.view_is
+
+pub returns-in_err-run-clause-apart : goal.returns-in_err-run-clause-apart
+returns-in_err-run-clause-apart c =
+    subst (AreApart run_number) c.self.view_is
+    (indexed_apart c.self.inside.runs.entries c.self.inside.bytes c.self.inside.events c.self.inside.versions c.self.invariant)
+
+pub returns-clause-apart : goal.returns-clause-apart
+returns-clause-apart c =
+    subst (AreApart run_number) c.self.view_is
+    (indexed_apart c.self.inside.runs.entries c.self.inside.bytes c.self.inside.events c.self.inside.versions c.self.invariant)
