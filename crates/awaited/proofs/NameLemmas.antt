@@ -84,6 +84,11 @@ unnamed_one number a old new u =
     renames_as number _ _ old new (λ name. ap (λ b. not b && has_pair old name number) (number_tells.flip name a))
     (removed number (λ name. has_pair old name number) old old new (renames_none number old) a u)
 
+-- none went, where none is given
+pub unnamed_none : (number : ℕ) (o : Option ℕ) (old : List (ℕ × ℕ)) → ((a : ℕ) → o ≡ Some a → ⊥) → Renames number (λ name. not (is_one o name) && has_pair old name number) old old
+unnamed_none number None old h = renames_none number old
+unnamed_none number (Some a) old h = absurd (h a refl)
+
 -- ---- the first pair of a name
 
 pub zero_first : (name n : ℕ) → is_gt (pair_cmp (name, 0) (name, n)) ≡ false

@@ -7,7 +7,7 @@ use Rattle.std.proofs.lemmas.Bool.Decides.{nat_tests}
 use Rattle.std.proofs.lemmas.Bool.{cond-true, cond-false}
 use Rattle.lists.specs.Entries.{has, without, AreApart, AreApartBy}
 use Rattle.lists.proofs.Keyed.{filter_none, find_without}
-use Rattle.ordered.proofs.Apart.{number_tells, found, found_by, apart_left, apart_put, find_gone, find_put, narrower}
+use Rattle.ordered.proofs.Apart.{number_tells, found, found_by, apart_left, apart_put, find_gone, find_put}
 use Rattle.ordered.proofs.Placed.{left_by}
 use Rattle.kinds.specs.Stores.{due_number, due_at, insert_due}
 use Rattle.kinds.specs.Windows.{number_of, version_of, value_of, events_of, due_of, kind_of, has_number, is_of, without_number, others, insert_window, opened, joined, after_event, is_full, standing, has_room, offered, fired}
@@ -385,6 +385,19 @@ any_found t (w ∷ ws) = ap (λ b. t w || b) (any_found t ws) ∙ by_test (t w)
     by_test true = refl
     by_test false = refl
 
+-- one that is found passes
+any_at : (p q : Window → Bool) (ws : List Window) (w : Window) → find p ws ≡ Some w → q w ≡ true → list_any q ws ≡ true
+any_at p q [] w f t = cc
+any_at p q (e ∷ es) w f t = by_test (p e) f (any_at p q es w)
+  where
+    or_right : (b c : Bool) → c ≡ true → (b || c) ≡ true
+    or_right true c h = refl
+    or_right false c h = h
+
+    by_test : (b : Bool) → cond b (Some e) (find p es) ≡ Some w → (find p es ≡ Some w → q w ≡ true → list_any q es ≡ true) → (q e || list_any q es) ≡ true
+    by_test true g more = ap (λ b. b || list_any q es) (ap q (same_Some e w g) ∙ t)
+    by_test false g more = or_right (q e) (list_any q es) (more g t)
+
 module _ (names : ℕ → Window → Bool) (ws : List Window) (pairs : List (ℕ × ℕ)) (numbers : AreApart number_of ws) (a : AreNamed names ws pairs) (name : ℕ) where
   -- no pair of the name, so no window names it
   pub none_names : ((n : ℕ) → has_pair pairs name n ≡ true → true ≡ false) → list_any (names name) ws ≡ false
@@ -397,31 +410,11 @@ module _ (names : ℕ → Window → Bool) (ws : List Window) (pairs : List (ℕ
 
   -- a pair of the name, so the window of its number names it
   pub one_names : (n : ℕ) → has_pair pairs name n ≡ true → list_any (names name) ws ≡ true
-  one_names n h = any_found (names name) ws ∙ by_found (find (has_number n) ws) refl (sym (a name n) ∙ h)
+  one_names n h = by_found (find (has_number n) ws) refl (sym (a name n) ∙ h)
     where
-      some : (o : Option Window) → find (names name) ws ≡ o → (w : Window) → find (has_number n) ws ≡ Some w → names name w ≡ true → is_some o ≡ true
-      some (Some v) f w g t = refl
-      some None f w g t = let no : None ≡ Some w = sym (narrower (names name) (λ e. has_number n e && names name e) (λ e p. off (has_number n e) (names name e) p) ws f) ∙ both_found ws w g t in cc
-        where
-          off : (x y : Bool) → y ≡ false → (x && y) ≡ false
-          off true y p = p
-          off false y p = refl
-
-          both_found : (es : List Window) (w : Window) → find (has_number n) es ≡ Some w → names name w ≡ true → find (λ e. has_number n e && names name e) es ≡ Some w
-          both_found [] w g t = cc
-          both_found (e ∷ es) w g t = by_test (has_number n e) g (both_found es w)
-            where
-              by_test : (b : Bool) → cond b (Some e) (find (has_number n) es) ≡ Some w → (find (has_number n) es ≡ Some w → names name w ≡ true → find (λ e. has_number n e && names name e) es ≡ Some w)
-                  → cond (b && names name e) (Some e) (find (λ e. has_number n e && names name e) es) ≡ Some w
-              by_test true g more = ap (λ b. cond b (Some e) (find (λ e. has_number n e && names name e) es)) (ap (names name) (head_same e w g) ∙ t) ∙ g
-              by_test false g more = more g t
-
-              head_same : (e w : Window) → Some e ≡ Some w → e ≡ w
-              head_same e w h = cc
-
-      by_found : (o : Option Window) → find (has_number n) ws ≡ o → named_in names name o ≡ true → is_some (find (names name) ws) ≡ true
+      by_found : (o : Option Window) → find (has_number n) ws ≡ o → named_in names name o ≡ true → list_any (names name) ws ≡ true
       by_found None g t = cc
-      by_found (Some w) g t = some (find (names name) ws) refl w g t
+      by_found (Some w) g t = any_at (has_number n) (names name) ws w g t
 
 -- what the pairs tell of a name, the windows tell
 pub any_named : (names : ℕ → Window → Bool) (ws now : List Window) (pairs : List (ℕ × ℕ)) → AreApart number_of ws → AreNamed names ws pairs → (name : ℕ) (b : Bool) → IsNamed pairs name b → ws ≡ now → b ≡ list_any (names name) now

@@ -74,7 +74,8 @@ impl WindowSet {
         let before = self.windows.find(&key);
         let was_open = before.is_some();
         let replaced = replaced_in(before);
-        match self.windows.offer(version, rule, value, event, t, number)? {
+        let offered = self.windows.offer(version, rule, value, event, t, number)?;
+        match offered {
             Offered::Full { number, events } => {
                 self.names.close(number, events.as_slice(), version);
                 Ok(Placed::Full { events, was_open })

@@ -1,4 +1,4 @@
 mod Kept
 mod Offers
-mod Open
+pub mod Open
 mod Over

@@ -8,7 +8,7 @@ use Rattle.awaited.proofs.NameLemmas.{renames_none, inserted}
 use Rattle.awaited.proofs.names.Names.open.Goals as goal
 
 pub put-requires : goal.put-requires
-put-requires c = ap (find (has due_number c.args.number)) c.drop_number.ensures ∙ find_without (has due_number c.args.number) _
+put-requires c = record { new = ap (find (has due_number c.args.number)) c.drop_number.ensures ∙ find_without (has due_number c.args.number) _ }
 
 pub returns-clause-dues : goal.returns-clause-dues
 returns-clause-dues c = c.in_ok-put.ensures.ok ∙ ap (insert_due (due_at c.args.due c.args.number 0)) c.drop_number.ensures
