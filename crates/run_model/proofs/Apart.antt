@@ -24,7 +24,7 @@ use Rattle.run_model.specs.State.{State, Issue, empty, moment_at, open_issue, ti
 use Rattle.run_model.proofs.FitRuns.{all-queued}
 use Rattle.run_model.proofs.FitWindows.{not-true, pairs-filter}
 use Rattle.run_model.proofs.Kept.{Keeps, freely, window_after, with_offer}
-use Rattle.run_model.proofs.KeptReplies.{KeepsCalls, kept-take_operations}
+use Rattle.run_model.proofs.KeptReplies.{Drops, KeepsCalls, dropping, kept-take_operations}
 use Rattle.run_model.proofs.KeptSteps.{KeepsSteps, kept-step}
 use Rattle.run_model.proofs.Members.{all-map, in-all, in-found}
 
@@ -65,12 +65,12 @@ pub all-unmap : {X Y : Type 0} (P : Y → Type 0) (f : X → Y) (xs : List X) �
 all-unmap P f [] h = tt
 all-unmap P f (x ∷ xs) h = (h.0, all-unmap P f xs h.1)
 
-pairs-map : {X Y : Type 0} (R : Y → Y → Type 0) (f : X → Y) (xs : List X)
+pub pairs-map : {X Y : Type 0} (R : Y → Y → Type 0) (f : X → Y) (xs : List X)
     → ArePairwise (λ x later. R (f x) (f later)) xs → ArePairwise R (map f xs)
 pairs-map R f [] h = tt
 pairs-map R f (x ∷ xs) h = (all-map (R (f x)) f xs h.0, pairs-map R f xs h.1)
 
-pairs-unmap : {X Y : Type 0} (R : Y → Y → Type 0) (f : X → Y) (xs : List X) → ArePairwise R (map f xs)
+pub pairs-unmap : {X Y : Type 0} (R : Y → Y → Type 0) (f : X → Y) (xs : List X) → ArePairwise R (map f xs)
     → ArePairwise (λ x later. R (f x) (f later)) xs
 pairs-unmap R f [] h = tt
 pairs-unmap R f (x ∷ xs) h = (all-unmap (R (f x)) f xs h.0, pairs-unmap R f xs h.1)
@@ -277,8 +277,8 @@ apart-closed i s there h =
       );
     }
 
-pub apart-calls : KeepsCalls Beside
-apart-calls = record {
+pub apart-drops : Drops Beside
+apart-drops = record {
   runs = keeps-apart;
   closes = apart-closed;
   reopens = λ s h.
@@ -289,6 +289,9 @@ apart-calls = record {
   requeues = λ i is r s live new h.
       apart-again s.entries s.items (is ++ map item_of s.issues) i (record i { due = s.moment }) refl h;
 }
+
+pub apart-calls : KeepsCalls Beside
+apart-calls = dropping Beside apart-drops
 
 -- a call is made: its item leaves the queue
 pub apart-issue : (number : ℕ) (i : Item) (s : State) → item_at number s ≡ Some i → Beside [] s

@@ -25,7 +25,7 @@ find-last p [] x differs =
     [ true ↦ λ no. absurd (no refl) | false ↦ λ no. refl ]) differs
 find-last p (y ∷ ys) x differs = ap (λ o. cond (p y) (Some y) o) (find-last p ys x differs)
 
-none-left : {X : Type 0} (p q : X → Bool) (xs : List X) → ((x : X) → p x ≡ true → q x ≡ false)
+pub none-left : {X : Type 0} (p q : X → Bool) (xs : List X) → ((x : X) → p x ≡ true → q x ≡ false)
     → find p (filter q xs) ≡ None
 none-left p q [] h = refl
 none-left p q (x ∷ xs) h = by_tests (p x) (q x) refl (h x) (none-left p q xs h)

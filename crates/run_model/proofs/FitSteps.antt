@@ -31,8 +31,8 @@ use Rattle.run_model.proofs.FitEvents.{fit-accepted, found-left}
 use Rattle.run_model.proofs.FitFunctions.{fit-registered}
 use Rattle.run_model.proofs.FitRuns.{fit-add_invocation, fit-add_rule, fit-add_sleep, fit-add_wait, fit-called, fit-end_run, fit-finds_out, fit-invocations, fit-pend, fit-plan_named, fit-queue, fit-record_result, fit-rules, fit-sleeps, fit-waits, fit-want}
 use Rattle.run_model.proofs.FitWindows.{fit-filled, fit-fired, fit-joined, fit-started, fit-windows_left}
-use Rattle.run_model.proofs.Kept.{Keeps, freely, keeps-both, window_after, with_offer}
-use Rattle.run_model.proofs.KeptReplies.{KeepsCalls}
+use Rattle.run_model.proofs.Kept.{Changes, Keeps, freely, keeps-both, window_after, with_offer}
+use Rattle.run_model.proofs.KeptReplies.{Drops, KeepsCalls, dropping}
 use Rattle.run_model.proofs.KeptSteps.{KeepsSteps, all_fired, is-due, kept-step}
 use Rattle.run_model.proofs.Members.{all-map, in-all, in-back, in-either, in-filter, in-found, in-front}
 
@@ -142,8 +142,8 @@ fit-issue number i s found h =
 
 -- ## The changes
 
-pub keeps-fit : Keeps IsFit
-keeps-fit = freely IsFit (record {
+pub fit-changes : Changes IsFit
+fit-changes = record {
   accepts = λ event id s new h. fit-accepted event id s h;
   starts = λ f event parent s there given h. fit-started f (event ∷ []) parent s there (given, tt) h;
   fills = λ f r value event s may full h. fit-filled f r value event s may full h;
@@ -159,7 +159,10 @@ keeps-fit = freely IsFit (record {
   pends = λ r name s live new h. fit-pend pending.Invocation name r s h;
   invokes = λ r name child t s there h. fit-add_invocation r name child t s h;
   ends = λ r status s live h. fit-end_run r status s live h;
-}) (record {
+}
+
+pub keeps-fit : Keeps IsFit
+keeps-fit = freely IsFit fit-changes (record {
   records = λ run name result s h. fit-record_result run name result s h;
   sleeps_go = λ test s h. fit-sleeps test s h;
   waits_go = λ test s h. fit-waits test s h;
@@ -236,8 +239,8 @@ fit-again i s h = record {
   start = subst (λ start. IsStart start) (sym h.start) tt;
 }
 
-pub keeps-calls : KeepsCalls FitBeside
-keeps-calls = record {
+pub fit-drops : Drops FitBeside
+fit-drops = record {
   runs = λ is. keeps-both IsFit (AreCalledFit is) keeps-fit (keeps-called is);
   closes = λ i s there h. (
     fit-issues (filter (λ (other : Issue). not (i.call == other.call)) s.issues) s
@@ -257,6 +260,9 @@ keeps-calls = record {
     h.1.1,
   );
 }
+
+pub keeps-calls : KeepsCalls FitBeside
+keeps-calls = dropping FitBeside fit-drops
 
 pub keeps-steps : KeepsSteps last_moment IsInRange FitBeside
 keeps-steps = record {

@@ -1,7 +1,8 @@
 -- Each word of the definition that changes a state leaves a fit one fit.
-use Rattle.std.proofs.Common.{ℕ, ◌≤◌, Bool, List, [], ◌∷◌, Option, length}
+use Rattle.std.proofs.Common.{ℕ, ◌≤◌, Bool, true, false, not, List, [], ◌∷◌, Option, Some, None, length}
 use Rattle.std.specs.List.{AllByRecursion}
 use Rattle.kinds.specs.Moments.{last_moment}
+use Rattle.kinds.specs.RunSteps.{is_pending}
 use Rattle.kinds.specs.declared.event.Event.{Event}
 use Rattle.kinds.specs.declared.event.EventIn.{EventIn}
 use Rattle.kinds.specs.declared.input.Input.{Input}
@@ -12,21 +13,22 @@ use Rattle.kinds.specs.declared.store.Item.{Item}
 use Rattle.kinds.specs.declared.store.Parent.{Parent}
 use Rattle.functions.specs.declared.entry.FunctionEntry.{FunctionEntry}
 use Rattle.run_model.specs.Advance.{Timed, advance, fire}
-use Rattle.run_model.specs.Ends.{cancel_run, complete_run, fail_run, tell_parent}
+use Rattle.run_model.specs.Ends.{cancel_run, complete_run, fail_run, is_invocation_of, record_at_parent, tell, tell_parent, without_invocation_of}
 use Rattle.run_model.specs.Events.{end_wait, follow, offer_to_all, wake_by}
 use Rattle.run_model.specs.Fit.{AreGiven, IsFit, IsInRange}
 use Rattle.run_model.specs.Laws.{IsIn}
 use Rattle.run_model.specs.Machine.{act, fold, reopen, state_after, step}
 use Rattle.run_model.specs.Making.{discover, make_run}
-use Rattle.run_model.specs.Recording.{Discovery}
+use Rattle.run_model.specs.Recording.{Discovery, record_result}
 use Rattle.run_model.specs.Replies.{Taking, fail_call, on_call_failed, on_reply, take_operations}
 use Rattle.run_model.specs.Requests.{Answering, cancel_all, on_events}
 use Rattle.run_model.specs.Settle.{Settled, settle}
-use Rattle.run_model.specs.State.{State, Run, Issue, Waiting, empty}
-use Rattle.run_model.proofs.FitSteps.{FitBeside, fit-empty, fit-step, keeps-calls, keeps-fit, keeps-steps}
+use Rattle.run_model.specs.State.{State, Run, Issue, Waiting, empty, live_run}
+use Rattle.run_model.proofs.FitRuns.{fit-invocations, fit-record_result}
+use Rattle.run_model.proofs.FitSteps.{FitBeside, fit-changes, fit-empty, fit-step, keeps-calls, keeps-fit, keeps-steps}
 use Rattle.run_model.proofs.FitWindows.{fit-started}
-use Rattle.run_model.proofs.Kept.{IsFunction, IsLive, kept-discover, kept-make_run}
-use Rattle.run_model.proofs.KeptEvents.{Stands, kept-cancel_all, kept-cancel_run, kept-complete_run, kept-end_wait, kept-fail_run, kept-follow, kept-offer_to_all, kept-on_events, kept-tell_parent, kept-wake_by}
+use Rattle.run_model.proofs.Kept.{IsFunction, IsLive, kept-discover, kept-discovered, kept-make_run, makes-of}
+use Rattle.run_model.proofs.KeptEvents.{Stands, kept-cancel_all, kept-cancel_run, kept-complete_run, kept-end_wait, kept-fail_run, kept-follow, kept-offer_to_all, kept-on_events, kept-wake_by}
 use Rattle.run_model.proofs.KeptReplies.{kept-fail_call, kept-on_call_failed, kept-on_reply, kept-take_operations}
 use Rattle.run_model.proofs.KeptSteps.{IsThere, kept-act, kept-advance, kept-fire, kept-reopen, kept-settle_by}
 
@@ -38,7 +40,7 @@ fit-discover = kept-discover IsFit keeps-fit
 pub fit-make_run : (f : FunctionEntry) (events : List ℕ) (parent : Option Parent) (s : State)
     → IsFunction f s → AreGiven s.events events → IsFit s → IsFit (make_run f events parent s)
 fit-make_run f events parent s there given h =
-    kept-make_run IsFit keeps-fit f events parent s (fit-started f events parent s there given h)
+    kept-make_run IsFit (makes-of IsFit fit-changes) f events parent s (fit-started f events parent s there given h)
 
 pub fit-end_wait : (result : List ℕ) (w : Waiting) (s : State) → IsIn w s.waits → IsFit s
     → IsFit (end_wait result w s)
@@ -58,9 +60,23 @@ fit-follow = kept-follow IsFit keeps-fit
 
 -- ## Ends
 
+fit-told : (d : Discovery) (p : Parent) (result : List ℕ) (waits : Bool) (s : State) → IsFit s
+    → IsFit (record_at_parent d p result waits s)
+fit-told d p result true s h =
+    kept-discovered IsFit keeps-fit d (record_result p.run p.hash result (without_invocation_of p s))
+    (fit-record_result p.run p.hash result (without_invocation_of p s)
+    (fit-invocations (λ i. not (is_invocation_of p i)) s h))
+fit-told d p result false s h = h
+
+fit-tell : (d : Discovery) (p : Parent) (result : List ℕ) (found : Option Run) (s : State) → IsFit s
+    → IsFit (tell d p result found s)
+fit-tell d p result None s h = h
+fit-tell d p result (Some r) s h = fit-told d p result (is_pending p.hash r.steps) s h
+
 pub fit-tell_parent : (d : Discovery) (p : Option Parent) (result : List ℕ) (s : State) → IsFit s
     → IsFit (tell_parent d p result s)
-fit-tell_parent = kept-tell_parent IsFit keeps-fit
+fit-tell_parent d None result s h = h
+fit-tell_parent d (Some p) result s h = fit-tell d p result (live_run p.run s) s h
 
 pub fit-complete_run : (r : Run) (output : List ℕ) (s : State) → IsLive r s → IsFit s
     → IsFit (complete_run r output s)

@@ -10,6 +10,7 @@ use Rattle.kinds.specs.Windows.{is_full}
 use Rattle.kinds.specs.declared.event.Event.{Event}
 use Rattle.kinds.specs.declared.event.EventIn.{EventIn}
 use Rattle.kinds.specs.declared.store.Parent.{Parent}
+use Rattle.kinds.specs.declared.store.RunStatus.{RunStatus}
 use Rattle.kinds.specs.declared.store.RunStatus.TheVariants.{Completed, Failed, Cancelled}
 use Rattle.kinds.specs.declared.window.WindowRule.{WindowRule}
 use Rattle.functions.specs.declared.entry.FunctionEntry.{FunctionEntry}
@@ -22,7 +23,7 @@ use Rattle.run_model.specs.Making.{make_run}
 use Rattle.run_model.specs.Recording.{Discovery, at_once, at_the_end, data_result, error_result, record_result}
 use Rattle.run_model.specs.Requests.{Answering, accept, answer_event, cancel_all, cancel_by, cancel_found, on_event, on_events, remember, repeats}
 use Rattle.run_model.specs.State.{State, Run, Waiting, live_run}
-use Rattle.run_model.proofs.Kept.{IsFunction, IsLive, Keeps, MayJoin, freely, kept-discovered, kept-make_run, own-number, window_after, with_offer}
+use Rattle.run_model.proofs.Kept.{Ending, IsFunction, IsLive, Keeps, MayJoin, freely, kept-discovered, own-number, window_after, with_offer}
 use Rattle.run_model.proofs.Members.{all-front, in-found}
 
 module _ (P : State → Type 0) (keeps : Keeps P) where
@@ -61,15 +62,13 @@ module _ (P : State → Type 0) (keeps : Keeps P) where
             (with_offer f r value event s)
         | false ↦ with_offer f r value event s
       ])) [
-        | true ↦ λ e. kept-make_run P keeps f (windows.events_of (window_after f r value event s)) None
-            (with_offer f r value event s) (keeps.fills f r value event s may e h)
+        | true ↦ λ e. keeps.fills f r value event s may e h
         | false ↦ λ e. keeps.joins f r value event s may e h
       ]) refl
 
   pub kept-offer_to : (f : FunctionEntry) (r : Option WindowRule) (event : Event) (s : State) → IsFunction f s
       → window_rule_of f.function ≡ r → event.number ≤ s.events → P s → P (offer_to f r event s)
-  kept-offer_to f None event s there e given h = kept-make_run P keeps f (event.number ∷ []) None s
-      (keeps.starts f event.number None s there given h)
+  kept-offer_to f None event s there e given h = keeps.starts f event.number s there given h
   kept-offer_to f (Some r) event s there e given h =
       kept-in_window f r (key_value (key_of r) event.text) event.number s
       (record { there = there; rule = e; given = given }) h
@@ -138,23 +137,32 @@ module _ (P : State → Type 0) (keeps : Keeps P) where
 
   -- ## Ends
 
-  pub kept-record_at_parent : (d : Discovery) (p : Parent) (r : Run) (result : List ℕ) (b : Bool) (s : State)
-      → live_run p.run s ≡ Some r → is_pending p.hash r.steps ≡ b → P s → P (record_at_parent d p result b s)
-  kept-record_at_parent d p r result true s live e h =
-      kept-discovered P keeps d (record_result p.run p.hash result (without_invocation_of p s))
-      (keeps.tells p r result s live e h)
-  kept-record_at_parent d p r result false s live e h = h
+  pub kept-record_at_parent : (d : Discovery) (p : Parent) (r q : Run) (status : RunStatus) (result : List ℕ)
+      (b : Bool) (s : State) → r.parent ≡ Some p → live_run p.run (end_run r status s) ≡ Some q
+      → is_pending p.hash q.steps ≡ b → Ending P r status s
+      → P (record_at_parent d p result b (end_run r status s))
+  kept-record_at_parent d p r q status result true s parent live waits h =
+      kept-discovered P keeps d (record_result p.run p.hash result (without_invocation_of p (end_run r status s)))
+      (h.tells p q result parent live waits)
+  kept-record_at_parent d p r q status result false s parent live waits h = h.ends
 
-  pub kept-tell : (d : Discovery) (p : Parent) (result : List ℕ) (found : Option Run) (s : State)
-      → live_run p.run s ≡ found → P s → P (tell d p result found s)
-  kept-tell d p result None s e h = h
-  kept-tell d p result (Some r) s e h =
-      kept-record_at_parent d p r result (is_pending p.hash r.steps) s e refl h
+  pub kept-tell : (d : Discovery) (p : Parent) (r : Run) (status : RunStatus) (result : List ℕ)
+      (found : Option Run) (s : State) → r.parent ≡ Some p → live_run p.run (end_run r status s) ≡ found
+      → Ending P r status s → P (tell d p result found (end_run r status s))
+  kept-tell d p r status result None s parent e h = h.ends
+  kept-tell d p r status result (Some q) s parent e h =
+      kept-record_at_parent d p r q status result (is_pending p.hash q.steps) s parent e refl h
 
-  pub kept-tell_parent : (d : Discovery) (p : Option Parent) (result : List ℕ) (s : State) → P s
-      → P (tell_parent d p result s)
-  kept-tell_parent d None result s h = h
-  kept-tell_parent d (Some p) result s h = kept-tell d p result (live_run p.run s) s refl h
+  kept-told : (d : Discovery) (p : Option Parent) (r : Run) (status : RunStatus) (result : List ℕ) (s : State)
+      → r.parent ≡ p → Ending P r status s → P (tell_parent d p result (end_run r status s))
+  kept-told d None r status result s parent h = h.ends
+  kept-told d (Some p) r status result s parent h =
+      kept-tell d p r status result (live_run p.run (end_run r status s)) s parent refl h
+
+  -- a run ends, and its parent is told
+  pub kept-ended : (d : Discovery) (r : Run) (status : RunStatus) (result : List ℕ) (s : State)
+      → Ending P r status s → P (tell_parent d r.parent result (end_run r status s))
+  kept-ended d r status result s h = kept-told d r.parent r status result s refl h
 
   pub kept-raise : (event : EventIn) (s : State) → P s → P (raise event s)
   kept-raise event s h = kept-follow at_the_end (event_with event s) (add_event (event_with event s) s)
@@ -166,22 +174,26 @@ module _ (P : State → Type 0) (keeps : Keeps P) where
       [ true ↦ s | false ↦ raise (failed_event r error s) s ]))
       [ true ↦ h | false ↦ kept-raise (failed_event r error s) s h ]
 
+  pub ended-complete_run : (r : Run) (output : List ℕ) (s : State) → Ending P r Completed s
+      → P (complete_run r output s)
+  ended-complete_run r output s h = kept-ended at_the_end r Completed (data_result output) s h
+
+  pub ended-fail_run : (r : Run) (error : List ℕ) (s : State) → Ending P r Failed s → P (fail_run r error s)
+  unfolding fail_run
+  ended-fail_run r error s h =
+      kept-raise_failed r error (tell_parent at_the_end r.parent (error_result error) (end_run r Failed s))
+      (kept-ended at_the_end r Failed (error_result error) s h)
+
   pub kept-complete_run : (r : Run) (output : List ℕ) (s : State) → IsLive r s → P s
       → P (complete_run r output s)
-  kept-complete_run r output s live h =
-      kept-tell_parent at_the_end r.parent (data_result output) (end_run r Completed s)
-      (keeps.ends r Completed s live h)
+  kept-complete_run r output s live h = ended-complete_run r output s (keeps.ends r Completed s live h)
 
   pub kept-fail_run : (r : Run) (error : List ℕ) (s : State) → IsLive r s → P s → P (fail_run r error s)
-  unfolding fail_run
-  kept-fail_run r error s live h =
-      kept-raise_failed r error (tell_parent at_the_end r.parent (error_result error) (end_run r Failed s))
-      (kept-tell_parent at_the_end r.parent (error_result error) (end_run r Failed s)
-      (keeps.ends r Failed s live h))
+  kept-fail_run r error s live h = ended-fail_run r error s (keeps.ends r Failed s live h)
 
   pub kept-cancel_run : (d : Discovery) (r : Run) (s : State) → IsLive r s → P s → P (cancel_run d r s)
-  kept-cancel_run d r s live h = kept-tell_parent d r.parent cancelled_result (end_run r Cancelled s)
-      (keeps.ends r Cancelled s live h)
+  kept-cancel_run d r s live h =
+      kept-ended d r Cancelled cancelled_result s (keeps.ends r Cancelled s live h)
 
   pub kept-cancel_found : (run : ℕ) (found : Option Run) (s : State) → live_run run s ≡ found → P s
       → P (cancel_found found s)

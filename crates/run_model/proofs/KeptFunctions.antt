@@ -11,7 +11,7 @@ use Rattle.run_model.specs.Machine.{step}
 use Rattle.run_model.specs.Requests.{remember}
 use Rattle.run_model.specs.State.{State, moment_at, tidied}
 use Rattle.run_model.proofs.Kept.{Keeps, freely}
-use Rattle.run_model.proofs.KeptReplies.{KeepsCalls}
+use Rattle.run_model.proofs.KeptReplies.{KeepsCalls, dropping}
 use Rattle.run_model.proofs.KeptSteps.{KeepsSteps, kept-advance, kept-step}
 
 module _ (versions : ℕ) (fs : List FunctionEntry) where
@@ -46,14 +46,14 @@ module _ (versions : ℕ) (fs : List FunctionEntry) where
   })
 
   functions-calls : KeepsCalls (λ is s. HasFunctions versions fs s)
-  functions-calls = record {
+  functions-calls = dropping (λ is s. HasFunctions versions fs s) (record {
     runs = λ is. keeps-functions;
     closes = λ i s there h. h;
     reopens = λ s h. h;
     drops = λ i is s h. h;
     retries = λ i is a r s live new h. h;
     requeues = λ i is r s live new h. h;
-  }
+  })
 
   functions-tidied : (s : State) → HasFunctions versions fs s → HasFunctions versions fs (tidied s)
   unfolding tidied

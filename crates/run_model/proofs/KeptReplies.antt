@@ -1,9 +1,8 @@
 -- What a reply to a call and a call that fails do keeps what each change keeps. The call's item is aside in the
 -- meantime.
-use Rattle.std.proofs.Common.{◌≡◌, ℕ, ◌+◌, ◌==◌, Bool, true, false, not, cond, ◌||◌, List, [], ◌∷◌, map, codes, Option, Some, None, refl, sym, subst, eq-eqb, nat_lt, bytes_eq, arith}
+use Rattle.std.proofs.Common.{◌≡◌, ℕ, ◌==◌, Bool, true, false, not, cond, ◌||◌, List, [], ◌∷◌, map, codes, Option, Some, None, refl, nat_lt, bytes_eq}
 use Rattle.kinds.specs.ErrorObject.{error_object}
 use Rattle.kinds.specs.RunSteps.{Noting, adds, known, full, is_pending, is_planned, is_recorded, keep_step, note_pending, note_plan, pend_step, record_step, with_room}
-use Rattle.kinds.specs.declared.event.Event.{Event}
 use Rattle.kinds.specs.declared.reply.After.{After}
 use Rattle.kinds.specs.declared.reply.After.TheVariants as after
 use Rattle.kinds.specs.declared.reply.Op.{Op}
@@ -13,23 +12,21 @@ use Rattle.kinds.specs.declared.reply.Outcome.TheVariants as outcome
 use Rattle.kinds.specs.declared.reply.ReplyIn.{ReplyIn}
 use Rattle.kinds.specs.declared.reply.Time.{Time}
 use Rattle.kinds.specs.declared.store.Item.{Item}
-use Rattle.kinds.specs.declared.store.Parent.{Parent}
 use Rattle.kinds.specs.declared.store.Pending.{Pending}
 use Rattle.kinds.specs.declared.store.Pending.TheVariants as pending
+use Rattle.kinds.specs.declared.store.RunStatus.{RunStatus}
+use Rattle.kinds.specs.declared.store.RunStatus.TheVariants.{Completed, Failed}
 use Rattle.functions.specs.declared.entry.FunctionEntry.{FunctionEntry}
 use Rattle.sdk_reply.specs.Outcome.{outcome_of}
 use Rattle.run_model.specs.Ends.{fail_run}
-use Rattle.run_model.specs.Events.{add_event, event_with}
 use Rattle.run_model.specs.Fit.{item_of}
 use Rattle.run_model.specs.Laws.{IsIn}
-use Rattle.run_model.specs.Making.{make_run, queue}
+use Rattle.run_model.specs.Making.{queue}
 use Rattle.run_model.specs.Recording.{change_run, data_result, error_result, record_result}
-use Rattle.run_model.specs.Replies.{Taking, add_sleep, add_wait, after_found, again, begun, close, current, fail_call, fail_found, finished, invoke, invoke_found, invoked_event, is_final, is_idle, is_new_result, keep, lacks_target, moved_nothing, noted, on_call_failed, on_error, on_reply, pend, plan_named, reply_found, retries_of, retry, retry_found, retry_run, take_found, take_named, take_operation, take_operations, take_ops, take_outcome, take_reply, unknown_function, want, with_steps}
+use Rattle.run_model.specs.Replies.{Taking, add_sleep, add_wait, after_found, again, begun, close, current, fail_call, fail_found, finished, invoke, invoke_found, is_final, is_idle, is_new_result, keep, lacks_target, moved_nothing, noted, on_call_failed, on_error, on_reply, plan_named, reply_found, retries_of, retry, retry_found, retry_run, take_found, take_named, take_operation, take_operations, take_ops, take_outcome, take_reply, unknown_function, want}
 use Rattle.run_model.specs.State.{State, Run, Issue, live_run, open_issue}
-use Rattle.run_model.proofs.Kept.{Adds, IsLive, Keeps, kept-discover, kept-make_run, own-number, made-live, run_from}
-use Rattle.run_model.proofs.KeptEvents.{kept-complete_run, kept-fail_run}
-use Rattle.run_model.proofs.LiveRuns.{IsOf, of-changed, of-more}
-use Rattle.run_model.proofs.SettlingLists.{found-any}
+use Rattle.run_model.proofs.Kept.{Adds, Ending, IsLive, Keeps, kept-discover, own-number}
+use Rattle.run_model.proofs.KeptEvents.{ended-complete_run, ended-fail_run, kept-fail_run}
 use Rattle.run_model.proofs.Members.{in-found, in-front}
 
 -- ## The changes
@@ -40,12 +37,45 @@ pub record KeepsCalls (P : List Item → State → Type 0) : Type 0 where
   -- a call is open no more, or all aren't
   pub closes : (i : Issue) (s : State) → IsIn i s.issues → P [] s → P (i.item ∷ []) (close i.call s)
   pub reopens : (s : State) → P [] s → P (map item_of s.issues) (record s { issues = [] })
-  -- an item that is aside goes, or is queued again
+  -- an item that is aside goes: its run has ended, goes on without it, is wanted, or ends with it
+  pub drops : (i : Item) (is : List Item) (s : State) → live_run i.run s ≡ None → P (i ∷ is) s → P is s
+  pub leaves : (i : Item) (is : List Item) (r : Run) (s : State) → live_run i.run s ≡ Some r
+      → is_idle r s ≡ false → P (i ∷ is) s → P is s
+  pub calls_off : (i : Item) (is : List Item) (r : Run) (s : State) → live_run i.run s ≡ Some r
+      → is_recorded i.target r.steps ≡ true → P (i ∷ is) s → P is (change_run r.number want s)
+  pub ends : (i : Item) (is : List Item) (r : Run) (status : RunStatus) (s : State) → live_run i.run s ≡ Some r
+      → P (i ∷ is) s → Ending (P is) r status s
+  -- or it is queued again
+  pub retries : (i : Item) (is : List Item) (a : After) (r : Run) (s : State) → live_run i.run s ≡ Some r
+      → is_recorded i.target r.steps ≡ false → P (i ∷ is) s → P is (queue (again i a s) s)
+  pub requeues : (i : Item) (is : List Item) (r : Run) (s : State) → live_run i.run s ≡ Some r
+      → is_recorded i.target r.steps ≡ false → P (i ∷ is) s → P is (queue (record i { due = s.moment }) s)
+
+-- enough for the others: an item that is aside goes, wherever
+pub record Drops (P : List Item → State → Type 0) : Type 0 where
+  pub runs : (is : List Item) → Keeps (P is)
+  pub closes : (i : Issue) (s : State) → IsIn i s.issues → P [] s → P (i.item ∷ []) (close i.call s)
+  pub reopens : (s : State) → P [] s → P (map item_of s.issues) (record s { issues = [] })
   pub drops : (i : Item) (is : List Item) (s : State) → P (i ∷ is) s → P is s
   pub retries : (i : Item) (is : List Item) (a : After) (r : Run) (s : State) → live_run i.run s ≡ Some r
       → is_recorded i.target r.steps ≡ false → P (i ∷ is) s → P is (queue (again i a s) s)
   pub requeues : (i : Item) (is : List Item) (r : Run) (s : State) → live_run i.run s ≡ Some r
       → is_recorded i.target r.steps ≡ false → P (i ∷ is) s → P is (queue (record i { due = s.moment }) s)
+
+pub dropping : (P : List Item → State → Type 0) → Drops P → KeepsCalls P
+dropping P keeps = record {
+  runs = keeps.runs;
+  closes = keeps.closes;
+  reopens = keeps.reopens;
+  drops = λ i is s gone h. keeps.drops i is s h;
+  leaves = λ i is r s live going h. keeps.drops i is s h;
+  calls_off = λ i is r s live done h.
+      (keeps.runs is).wants r s (own-number i.run r s live) (keeps.drops i is s h);
+  ends = λ i is r status s live h.
+      (keeps.runs is).ends r status s (own-number i.run r s live) (keeps.drops i is s h);
+  retries = keeps.retries;
+  requeues = keeps.requeues;
+}
 
 -- ## What is looked for
 
@@ -80,20 +110,6 @@ adds-pending name kind r h =
     by_tests false false true k = absurd k
     by_tests false false false k = refl
 
--- a run that waits for another hasn't ended where that one is made
-still-live : (r : Run) (f : FunctionEntry) (events : List ℕ) (parent : Option Parent) (name : List ℕ) (s t : State)
-    → t.live ≡ (pend pending.Invocation name r s).live → IsLive r s
-    → IsOf (make_run f events parent t).live r.number
-still-live r f events parent name s t same live =
-    let own : IsOf s.live r.number =
-    found-any (λ (q : Run). r.number == q.number) (λ (q : Run). r.number == q.number) s.live r live
-    (eq-eqb r.number r.number refl) in
-    let pended : IsOf t.live r.number = subst (λ rs. IsOf rs r.number) (sym same)
-    (of-changed r.number r.number (λ q. with_steps (pend_step name pending.Invocation q.steps) q) s.live
-    (λ q. refl) own) in
-    subst (λ rs. IsOf rs r.number) (sym (made-live f events parent t))
-    (of-more r.number t.live (run_from f events parent t) pended)
-
 -- ## Operations
 
 module _ (P : State → Type 0) (keeps : Keeps P) where
@@ -121,17 +137,8 @@ module _ (P : State → Type 0) (keeps : Keeps P) where
   kept-invoke_found None id r name payload t s e live new h =
       keeps.results r name unknown_function s live (adds-pending name pending.Invocation r new) h
   kept-invoke_found (Some f) id r name payload t s e live new h =
-      let pended : State = pend pending.Invocation name r s in
-      let event : Event = event_with (invoked_event payload) s in
-      let there : State = add_event event pended in
-      let given : P there = keeps.accepts (invoked_event payload) None pended tt
-      (keeps.pends r name s live new h) in
-      keeps.invokes r name (s.runs + 1) t
-      (make_run f (event.number ∷ []) (Some (record { run = r.number; hash = name })) there)
-      (still-live r f (event.number ∷ []) (Some (record { run = r.number; hash = name })) name s there refl live)
-      (kept-make_run P keeps f (event.number ∷ []) (Some (record { run = r.number; hash = name })) there
-      (keeps.starts f event.number (Some (record { run = r.number; hash = name })) there
-      (in-front f s.functions s.retired (in-found (is_current id) s.functions f e)) (omega arith) given))
+      keeps.invokes f r name payload t s
+      (in-front f s.functions s.retired (in-found (is_current id) s.functions f e)) live new h
 
   pub kept-take_named : (i : Item) (no_retry : Bool) (r : Run) (o : Op) (t : Taking) → IsLive r t.state
       → P t.state → P (take_named i no_retry r o t).state
@@ -185,18 +192,17 @@ module _ (P : List Item → State → Type 0) (keeps : KeepsCalls P) where
         | false ↦ elim (nat_lt i.attempt (retries_of r s)) as (λ _. State)
             [ true ↦ queue (again i a s) s | false ↦ fail_run r error s ]
       ])) [
-        | true ↦ λ done. (keeps.runs []).wants r s (own-number i.run r s e) (keeps.drops i [] s h)
+        | true ↦ λ done. keeps.calls_off i [] r s e done h
         | false ↦ λ new. elim (nat_lt i.attempt (retries_of r s)) as (λ b. P [] (elim b as (λ _. State)
             [ true ↦ queue (again i a s) s | false ↦ fail_run r error s ])) [
               | true ↦ keeps.retries i [] a r s e new h
-              | false ↦ kept-fail_run (P []) (keeps.runs []) r error s (own-number i.run r s e)
-                  (keeps.drops i [] s h)
+              | false ↦ ended-fail_run (P []) (keeps.runs []) r error s (keeps.ends i [] r Failed s e h)
             ]
       ]) refl
 
   pub kept-retry_found : (found : Option Run) (i : Item) (a : After) (error : List ℕ) (s : State)
       → live_run i.run s ≡ found → P (i ∷ []) s → P [] (retry_found found i a error s)
-  kept-retry_found None i a error s e h = keeps.drops i [] s h
+  kept-retry_found None i a error s e h = keeps.drops i [] s e h
   kept-retry_found (Some r) i a error s e h = kept-retry_run r i a error s e h
 
   pub kept-retry : (i : Item) (a : After) (error : List ℕ) (s : State) → P (i ∷ []) s → P [] (retry i a error s)
@@ -206,11 +212,12 @@ module _ (P : List Item → State → Type 0) (keeps : KeepsCalls P) where
 
   pub kept-after_found : (found : Option Run) (i : Item) (a : After) (s : State) → live_run i.run s ≡ found
       → P (i ∷ []) s → P [] (after_found found i a s)
-  kept-after_found None i a s e h = keeps.drops i [] s h
+  kept-after_found None i a s e h = keeps.drops i [] s e h
   kept-after_found (Some r) i a s e h =
-      elim (is_idle r s) as (λ b. P [] (elim b as (λ _. State)
+      (elim (is_idle r s) as (λ b. is_idle r s ≡ b → P [] (elim b as (λ _. State)
       [ true ↦ retry_run r i a moved_nothing s | false ↦ s ]))
-      [ true ↦ kept-retry_run r i a moved_nothing s e h | false ↦ keeps.drops i [] s h ]
+      [ true ↦ λ idle. kept-retry_run r i a moved_nothing s e h | false ↦ λ going. keeps.leaves i [] r s e going h ])
+      refl
 
   pub kept-finished : (i : Item) (a : After) (t : Taking) → P (i ∷ []) t.state → P [] (finished i a t)
   kept-finished i a t h =
@@ -239,17 +246,17 @@ module _ (P : List Item → State → Type 0) (keeps : KeepsCalls P) where
   pub kept-take_outcome : (r : Run) (i : Item) (o : Outcome) (s : State) → live_run i.run s ≡ Some r
       → P (i ∷ []) s → P [] (take_outcome r i o s)
   kept-take_outcome r i (outcome.Ended output) s e h =
-      kept-complete_run (P []) (keeps.runs []) r output s (own-number i.run r s e) (keeps.drops i [] s h)
+      ended-complete_run (P []) (keeps.runs []) r output s (keeps.ends i [] r Completed s e h)
   kept-take_outcome r i (outcome.Ops ops no_retry a) s e h = kept-take_ops r i ops no_retry a s e h
   kept-take_outcome r i (outcome.Retry a error) s e h = kept-retry_run r i a error s e h
   kept-take_outcome r i (outcome.NoRetry error) s e h =
-      kept-fail_run (P []) (keeps.runs []) r error s (own-number i.run r s e) (keeps.drops i [] s h)
+      ended-fail_run (P []) (keeps.runs []) r error s (keeps.ends i [] r Failed s e h)
   kept-take_outcome r i (outcome.Unreadable at) s e h =
       kept-retry_run r i after.None (error_object (codes "unreadable reply")) s e h
 
   pub kept-reply_found : (found : Option Run) (i : Item) (reply : ReplyIn) (s : State)
       → live_run i.run s ≡ found → P (i ∷ []) s → P [] (reply_found found i reply s)
-  kept-reply_found None i reply s e h = keeps.drops i [] s h
+  kept-reply_found None i reply s e h = keeps.drops i [] s e h
   kept-reply_found (Some r) i reply s e h =
       kept-discover (P []) (keeps.runs []) (take_outcome r i (outcome_of reply) s)
       (kept-take_outcome r i (outcome_of reply) s e h)

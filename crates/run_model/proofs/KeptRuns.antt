@@ -20,7 +20,7 @@ use Rattle.run_model.specs.Requests.{remember}
 use Rattle.run_model.specs.Settle.{called}
 use Rattle.run_model.specs.State.{State, Run, moment_at, tidied}
 use Rattle.run_model.proofs.Kept.{Keeps, freely, run_from, window_after, with_offer}
-use Rattle.run_model.proofs.KeptReplies.{KeepsCalls}
+use Rattle.run_model.proofs.KeptReplies.{KeepsCalls, dropping}
 use Rattle.run_model.proofs.KeptSteps.{KeepsSteps, kept-step}
 
 -- a run keeps its number, and what it recorded
@@ -111,14 +111,14 @@ module _ (K : ℕ → List Run → Type 0) (stays : Stays K) where
   holds-tidied s h = h
 
   keeps-calls : KeepsCalls (λ is s. Holds K s)
-  keeps-calls = record {
+  keeps-calls = dropping (λ is s. Holds K s) (record {
     runs = λ is. keeps-runs;
     closes = λ i s there h. h;
     reopens = λ s h. h;
     drops = λ i is s h. h;
     retries = λ i is a r s live new h. h;
     requeues = λ i is r s live new h. h;
-  }
+  })
 
   keeps-steps : (bound : ℕ) → KeepsSteps bound (λ input. Unit {0}) (λ is s. Holds K s)
   keeps-steps bound = record {

@@ -22,7 +22,7 @@ use Rattle.run_model.specs.Recording.{change_run, wake_step}
 use Rattle.run_model.specs.Replies.{want}
 use Rattle.run_model.specs.Settle.{Settled, issue, issue_found, issue_of, item_at, next_issued, settle, settle_by}
 use Rattle.run_model.specs.State.{State, Run, Issue, at_moment, function_at, live_run, moment_at, tidied}
-use Rattle.run_model.proofs.Kept.{kept-discover, kept-make_run, own-number}
+use Rattle.run_model.proofs.Kept.{kept-discover}
 use Rattle.run_model.proofs.KeptEvents.{kept-cancel_found, kept-on_events}
 use Rattle.run_model.proofs.KeptReplies.{KeepsCalls, kept-fail_call, kept-on_call_failed, kept-on_reply}
 use Rattle.run_model.proofs.Members.{all-map, each-in, in-found}
@@ -130,10 +130,8 @@ module _ (bound : ℕ) (A : Input → Type 0) (P : List Item → State → Type 
       → P [] (make_found found w (without_window (windows.number_of w) s))
   kept-make_found None w s e there h = (keeps.calls.runs []).windows_go (windows.number_of w) s h
   kept-make_found (Some f) w s e there h =
-      kept-make_run (P []) (keeps.calls.runs []) f (windows.events_of w) None
-      (without_window (windows.number_of w) s)
-      ((keeps.calls.runs []).fires f w s
-      (in-found (has_version (windows.version_of w)) (s.functions ++ s.retired) f e) there h)
+      (keeps.calls.runs []).fires f w s
+      (in-found (has_version (windows.version_of w)) (s.functions ++ s.retired) f e) there h
 
   pub kept-fire : (e : Timed) (s : State) → IsThere s e → P [] s → P [] (fire e s)
   kept-fire (sleep_end e) s there h =
@@ -200,13 +198,12 @@ module _ (bound : ℕ) (A : Input → Type 0) (P : List Item → State → Type 
 
   pub kept-requeue_found : (i : Item) (is : List Item) (found : Option Run) (s : State) → live_run i.run s ≡ found
       → P (i ∷ is) s → P is (requeue_found i found s)
-  kept-requeue_found i is None s e h = keeps.calls.drops i is s h
+  kept-requeue_found i is None s e h = keeps.calls.drops i is s e h
   kept-requeue_found i is (Some r) s e h =
       (elim (is_recorded i.target r.steps) as (λ b. is_recorded i.target r.steps ≡ b
       → P is (elim b as (λ _. State)
       [ true ↦ change_run r.number want s | false ↦ queue (record i { due = s.moment }) s ])) [
-        | true ↦ λ done. (keeps.calls.runs is).wants r s (own-number i.run r s e)
-            (keeps.calls.drops i is s h)
+        | true ↦ λ done. keeps.calls.calls_off i is r s e done h
         | false ↦ λ new. keeps.calls.requeues i is r s e new h
       ]) refl
 

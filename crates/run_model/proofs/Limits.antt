@@ -21,10 +21,10 @@ use Rattle.run_model.specs.Requests.{remember}
 use Rattle.run_model.specs.Settle.{issue, issued, item_at, next_issued}
 use Rattle.run_model.specs.Sound.{KeepLimits, KeepsLimits}
 use Rattle.run_model.specs.State.{State, Issue, empty, in_cells, issue_entries, moment_at, tidied}
-use Rattle.run_model.proofs.Apart.{Beside, apart-calls, apart-issue, apart-tidied, keeps-apart}
+use Rattle.run_model.proofs.Apart.{Beside, apart-drops, apart-issue, apart-tidied, keeps-apart}
 use Rattle.run_model.proofs.FitWindows.{and-first, not-true}
 use Rattle.run_model.proofs.Kept.{Keeps, freely, keeps-both}
-use Rattle.run_model.proofs.KeptReplies.{KeepsCalls}
+use Rattle.run_model.proofs.KeptReplies.{KeepsCalls, dropping}
 use Rattle.run_model.proofs.KeptSteps.{KeepsSteps, kept-step}
 use Rattle.run_model.proofs.Members.{in-all, in-found}
 use Rattle.run_model.proofs.SettlingLists.{found-passes, same-some}
@@ -164,7 +164,7 @@ least-one passes (i ∷ items) = by_test (passes i) refl (least passes items) (l
     by_test false own found h = behind found h
 
 -- where numbers differ, items of one number are the same
-same-item : (i j : Item) (items : List Item) → IsIn i items → IsIn j items → AreDifferent items
+pub same-item : (i j : Item) (items : List Item) → IsIn i items → IsIn j items → AreDifferent items
     → i.number ≡ j.number → i ≡ j
 same-item i j [] a b h same = absurd a
 same-item i j (k ∷ items) (inl a) (inl b) h same = sym a ∙ b
@@ -243,18 +243,18 @@ abbrev LimitedBeside : List Item → State → Type 0
 LimitedBeside is s = Beside is s × Limited s
 
 limited-calls : KeepsCalls LimitedBeside
-limited-calls = record {
+limited-calls = dropping LimitedBeside (record {
   runs = λ is. keeps-both (Beside is) Limited (keeps-apart is) keeps-limited;
   closes = λ i s there h. (
-    apart-calls.closes i s there h.0,
+    apart-drops.closes i s there h.0,
     limits-filter (λ (other : Issue). not (i.call == other.call)) [] [] s.issues
         (λ c. omega arith) h.1,
   );
-  reopens = λ s h. (apart-calls.reopens s h.0, tt);
-  drops = λ i is s h. (apart-calls.drops i is s h.0, h.1);
-  retries = λ i is a r s live new h. (apart-calls.retries i is a r s live new h.0, h.1);
-  requeues = λ i is r s live new h. (apart-calls.requeues i is r s live new h.0, h.1);
-}
+  reopens = λ s h. (apart-drops.reopens s h.0, tt);
+  drops = λ i is s h. (apart-drops.drops i is s h.0, h.1);
+  retries = λ i is a r s live new h. (apart-drops.retries i is a r s live new h.0, h.1);
+  requeues = λ i is r s live new h. (apart-drops.requeues i is r s live new h.0, h.1);
+})
 
 pub map-last : {X Y : Type 0} (f : X → Y) (xs : List X) (x : X) → map f (xs ++ x ∷ []) ≡ map f xs ++ f x ∷ []
 map-last f [] x = refl

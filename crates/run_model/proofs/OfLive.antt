@@ -33,6 +33,7 @@ use Rattle.run_model.specs.State.{State, Run, Invocation, Sleep, Waiting, empty,
 use Rattle.run_model.proofs.FitRuns.{all-queued}
 use Rattle.run_model.proofs.FitWindows.{not-true}
 use Rattle.run_model.proofs.Kept.{IsLive, Keeps, freely, run_from, started, window_after, with_offer}
+use Rattle.run_model.proofs.KeptReplies.{dropping}
 use Rattle.run_model.proofs.KeptSteps.{KeepsSteps, kept-step}
 use Rattle.run_model.proofs.LiveRuns.{IsOf, of-changed, of-more}
 use Rattle.run_model.proofs.Members.{any-in, in-found}
@@ -311,7 +312,7 @@ of-issued i s h =
 
 of-steps : (bound : ℕ) → KeepsSteps bound (λ input. Unit {0}) (λ is s. AllOf s)
 of-steps bound = record {
-  calls = record {
+  calls = dropping (λ is s. AllOf s) (record {
     runs = λ is. keeps-of;
     closes = λ i s there h. h;
     reopens = λ s h. h;
@@ -319,7 +320,7 @@ of-steps bound = record {
     retries = λ i is a r s live new h. of-queued (again i a s) s (of-live i.run r s live) h;
     requeues = λ i is r s live new h.
         of-queued (record i { due = s.moment }) s (of-live i.run r s live) h;
-  };
+  });
   counts = λ s h. h;
   moves = λ t next s low e h. h;
   arrives = λ t s low on before h. h;

@@ -31,13 +31,14 @@ use Rattle.run_model.specs.State.{State, Run, EndedRun, empty, has_open_call, la
 use Rattle.run_model.proofs.Apart.{differs, pairs-last}
 use Rattle.run_model.proofs.FitWindows.{not-true, pairs-filter}
 use Rattle.run_model.proofs.Kept.{IsLive, Keeps, freely, run_from, started, window_after, with_offer}
+use Rattle.run_model.proofs.KeptReplies.{dropping}
 use Rattle.run_model.proofs.KeptSteps.{KeepsSteps, kept-step}
 use Rattle.run_model.proofs.Limits.{map-last}
 use Rattle.run_model.proofs.Members.{in-all, in-found}
 
 -- ## Numbers of lists that change
 
-numbers-changed : (number : ℕ) (f : Run → Run) (rs : List Run) → ((r : Run) → (f r).number ≡ r.number)
+pub numbers-changed : (number : ℕ) (f : Run → Run) (rs : List Run) → ((r : Run) → (f r).number ≡ r.number)
     → numbers_of (changed number f rs) ≡ numbers_of rs
 numbers-changed number f [] same = refl
 numbers-changed number f (r ∷ rs) same =
@@ -298,14 +299,14 @@ keeps-once = freely RunsStandOnce (record {
 
 once-steps : (bound : ℕ) → KeepsSteps bound (λ input. Unit {0}) (λ is s. RunsStandOnce s)
 once-steps bound = record {
-  calls = record {
+  calls = dropping (λ is s. RunsStandOnce s) (record {
     runs = λ is. keeps-once;
     closes = λ i s there h. h;
     reopens = λ s h. h;
     drops = λ i is s h. h;
     retries = λ i is a r s live new h. h;
     requeues = λ i is r s live new h. h;
-  };
+  });
   counts = λ s h. h;
   moves = λ t next s low e h. h;
   arrives = λ t s low on before h. h;

@@ -26,8 +26,8 @@ use Rattle.run_model.specs.Replies.{add_invocation, add_sleep, add_wait, close, 
 use Rattle.run_model.specs.Requests.{remember}
 use Rattle.run_model.specs.State.{State, Run, Issue, Invocation, Sleep, Waiting, function_at, live_run}
 use Rattle.run_model.proofs.FitWindows.{joined-value, joined-version, with_after}
-use Rattle.run_model.proofs.Kept.{Keeps, kept-discover, kept-make_run, window_after, with_offer, freely, kept-woken}
-use Rattle.run_model.proofs.KeptReplies.{KeepsCalls, kept-retry}
+use Rattle.run_model.proofs.Kept.{Changes, Keeps, kept-discover, kept-make_run, makes-of, window_after, with_offer, freely, kept-woken}
+use Rattle.run_model.proofs.KeptReplies.{Drops, KeepsCalls, dropping, kept-retry}
 use Rattle.run_model.proofs.KeptSteps.{IsThere, all_fired, is-due}
 use Rattle.run_model.proofs.Members.{any-in}
 use Rattle.run_model.proofs.SettlingLists.{fewer-left, found-any, length-left}
@@ -151,8 +151,8 @@ few-invocation c r name child t s h =
 few-next : (n entries : ℕ) → n ≤ entries → n ≤ entries + 1
 few-next n entries h = omega (arith, h)
 
-pub keeps-few : (c : ℕ) → Keeps (AreFew c)
-keeps-few c = freely (AreFew c) (record {
+few-changes : (c : ℕ) → Changes (AreFew c)
+few-changes c = record {
   accepts = λ event id s new h. few-accepted c event id s h;
   starts = λ f event parent s there given h. h;
   fills = λ f r value event s may full h. few-offered c f r value event s h;
@@ -169,7 +169,10 @@ keeps-few c = freely (AreFew c) (record {
   pends = λ r name s live new h. h;
   invokes = λ r name child t s there h. few-invocation c r name child t s h;
   ends = λ r status s live h. few-ended c r status s h;
-}) (record {
+}
+
+pub keeps-few : (c : ℕ) → Keeps (AreFew c)
+keeps-few c = freely (AreFew c) (few-changes c) (record {
   records = λ run name result s h. h;
   sleeps_go = λ test s h. let less = length-left test s.sleeps in omega (arith, h, less);
   waits_go = λ test s h. let less = length-left test s.waits in omega (arith, h, less);
@@ -181,8 +184,8 @@ few-issues : (c : ℕ) (test : Issue → Bool) (s : State) → AreFew c s
     → AreFew c (record s { issues = filter test s.issues })
 few-issues c test s h = let less = length-left test s.issues in omega (arith, h, less)
 
-pub few-calls : (c : ℕ) → KeepsCalls (λ is s. AreFew c s)
-few-calls c = record {
+pub few-drops : (c : ℕ) → Drops (λ is s. AreFew c s)
+few-drops c = record {
   runs = λ is. keeps-few c;
   closes = λ i s there h. few-issues c (λ (other : Issue). not (i.call == other.call)) s h;
   reopens = λ s h. omega (arith, h);
@@ -190,6 +193,9 @@ few-calls c = record {
   retries = λ i is a r s live new h. h;
   requeues = λ i is r s live new h. h;
 }
+
+few-calls : (c : ℕ) → KeepsCalls (λ is s. AreFew c s)
+few-calls c = dropping (λ is s. AreFew c s) (few-drops c)
 
 -- ## What is due goes
 
@@ -202,7 +208,8 @@ one-goes part x xs there =
 few-found : (c : ℕ) (found : Option FunctionEntry) (w : Window) (s : State) → AreFew c s
     → AreFew c (make_found found w s)
 few-found c None w s h = h
-few-found c (Some f) w s h = kept-make_run (AreFew c) (keeps-few c) f (windows.events_of w) None s h
+few-found c (Some f) w s h =
+    kept-make_run (AreFew c) (makes-of (AreFew c) (few-changes c)) f (windows.events_of w) None s h
 
 few-woken : (c run : ℕ) (name result : List ℕ) (s : State) → AreFew c s → AreFew c (wake_step run name result s)
 few-woken c run name result s h = kept-woken (AreFew c) (is_pending_in name (live_run run s)) s

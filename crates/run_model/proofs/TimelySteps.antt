@@ -39,14 +39,14 @@ use Rattle.run_model.specs.Settle.{called, issue, issued}
 use Rattle.run_model.specs.Sound.{AreTimely, Suits, all_runs}
 use Rattle.run_model.specs.State.{State, Run, Issue, Invocation, Sleep, Waiting, at_moment, empty, has_open_call, tidied}
 use Rattle.run_model.proofs.FitRuns.{all-changed, all-inserted, fit-invocations, fit-record_result, fit-rules, fit-sleeps, fit-waits}
-use Rattle.run_model.proofs.FitSteps.{FitBeside, fit-empty, keeps-calls, keeps-fit, keeps-steps, moment-within}
+use Rattle.run_model.proofs.FitSteps.{FitBeside, fit-changes, fit-empty, fit-drops, keeps-steps, moment-within}
 use Rattle.run_model.proofs.FitWindows.{IsBefore, all-inserted_in, is-before, replaced, with_after}
 use Rattle.run_model.proofs.Kept.{Keeps, IsLive, MayJoin, keeps-both, run_from, started, window_after, with_offer, freely}
-use Rattle.run_model.proofs.KeptReplies.{KeepsCalls}
+use Rattle.run_model.proofs.KeptReplies.{KeepsCalls, dropping}
 use Rattle.run_model.proofs.KeptSteps.{KeepsSteps, all_fired, is-due, kept-fire_by, kept-step}
 use Rattle.run_model.proofs.Members.{in-all, in-found}
 use Rattle.run_model.proofs.SettlingLists.{all-append}
-use Rattle.run_model.proofs.TimedCounts.{AreFew, few-calls, is-through, keeps-few, length-last}
+use Rattle.run_model.proofs.TimedCounts.{AreFew, few-drops, is-through, keeps-few, length-last}
 use Rattle.run_model.proofs.Timely.{AreBy, Late, due-later, late-arrived, late-moved, late-of, timed-late}
 
 -- ## Moments
@@ -307,48 +307,48 @@ FitAndLate s = IsFit s × LateOrHigh s
 
 keeps-late : Keeps FitAndLate
 keeps-late = freely FitAndLate (record {
-  accepts = λ event id s new h. (keeps-fit.accepts event id s new h.0, or-accepted event id s h.1);
+  accepts = λ event id s new h. (fit-changes.accepts event id s new h.0, or-accepted event id s h.1);
   starts = λ f event parent s there given h. (
-    keeps-fit.starts f event parent s there given h.0,
+    fit-changes.starts f event parent s there given h.0,
     either (late-started f (event ∷ []) parent s) (λ k. k) h.1,
   );
   fills = λ f r value event s may full h.
-      (keeps-fit.fills f r value event s may full h.0, or-filled f r value event s full h.1);
+      (fit-changes.fills f r value event s may full h.0, or-filled f r value event s full h.1);
   fires = λ f w s there stands h. (
-    keeps-fit.fires f w s there stands h.0,
+    fit-changes.fires f w s there stands h.0,
     either (λ (k : Late s). late-started f (windows.events_of w) None
         (without_window (windows.number_of w) s)
         (late-left (λ v. not (windows.has_number (windows.number_of w) v)) s k)) (λ k. k) h.1,
   );
   joins = λ f r value event s may full h.
-      (keeps-fit.joins f r value event s may full h.0, or-joined f r value event s may full h.0 h.1);
+      (fit-changes.joins f r value event s may full h.0, or-joined f r value event s may full h.0 h.1);
   windows_go = λ number s h. (
-    keeps-fit.windows_go number s h.0,
+    fit-changes.windows_go number s h.0,
     either (late-left (λ v. not (windows.has_number number v)) s) (λ k. k) h.1,
   );
   rules = λ r event c s there e h.
-      (keeps-fit.rules r event c s there e h.0, either (late-rule r event c s) (higher s.entries) h.1);
-  finds_out = λ r s there h. (keeps-fit.finds_out r s there h.0, either (λ k. k) (higher s.entries) h.1);
+      (fit-changes.rules r event c s there e h.0, either (late-rule r event c s) (higher s.entries) h.1);
+  finds_out = λ r s there h. (fit-changes.finds_out r s there h.0, either (λ k. k) (higher s.entries) h.1);
   wants = λ r s live h.
-      (keeps-fit.wants r s live h.0, either (late-changed r.number want s (λ q. refl)) (λ k. k) h.1);
+      (fit-changes.wants r s live h.0, either (late-changed r.number want s (λ q. refl)) (λ k. k) h.1);
   plans = λ r name s live new h. (
-    keeps-fit.plans r name s live new h.0,
+    fit-changes.plans r name s live new h.0,
     either (late-changed r.number (with_plan name) s (λ q. refl)) (higher s.entries) h.1,
   );
   sleeps = λ r name t s live new h.
-      (keeps-fit.sleeps r name t s live new h.0, either (late-sleep r name t s) (higher s.entries) h.1);
+      (fit-changes.sleeps r name t s live new h.0, either (late-sleep r name t s) (higher s.entries) h.1);
   waits = λ r name event t cond s live new h. (
-    keeps-fit.waits r name event t cond s live new h.0,
+    fit-changes.waits r name event t cond s live new h.0,
     either (late-wait r name event t cond s) (higher s.entries) h.1,
   );
   pends = λ r name s live new h.
-      (keeps-fit.pends r name s live new h.0, either (late-pend pending.Invocation name r s) (λ k. k) h.1);
+      (fit-changes.pends r name s live new h.0, either (late-pend pending.Invocation name r s) (λ k. k) h.1);
   invokes = λ r name child t s there h. (
-    keeps-fit.invokes r name child t s there h.0,
+    fit-changes.invokes r name child t s there h.0,
     either (late-invocation r name child t s) (higher s.entries) h.1,
   );
   ends = λ r status s live h.
-      (keeps-fit.ends r status s live h.0, either (late-ended r status s live) (λ k. k) h.1);
+      (fit-changes.ends r status s live h.0, either (late-ended r status s live) (λ k. k) h.1);
 }) (record {
   records = λ run name result s h. (
     fit-record_result run name result s h.0,
@@ -400,14 +400,14 @@ module _ (t : ℕ) where
 
   by-steps : KeepsSteps t (λ input. Unit {0}) (λ is s. s.moment ≤ t)
   by-steps = record {
-    calls = record {
+    calls = dropping (λ is s. s.moment ≤ t) (record {
       runs = λ is. keeps-by;
       closes = λ i s there h. h;
       reopens = λ s h. h;
       drops = λ i is s h. h;
       retries = λ i is a r s live new h. h;
       requeues = λ i is r s live new h. h;
-    };
+    });
     counts = λ s h. h;
     moves = λ u next s low e h. omega (arith, low, (is-due u s next e).0);
     arrives = λ u s low on before h. low;
@@ -431,20 +431,20 @@ pack : (is : List Item) (s : State) → FitBeside is s → LateOrHigh s → AreF
 pack is s fits late few = (fits, ((fits.0, late), few))
 
 pub timely-calls : KeepsCalls TimelyBeside
-timely-calls = record {
-  runs = λ is. keeps-both (FitBeside is) (λ s. FitAndLate s × AreFew 0 s) (keeps-calls.runs is)
+timely-calls = dropping TimelyBeside (record {
+  runs = λ is. keeps-both (FitBeside is) (λ s. FitAndLate s × AreFew 0 s) (fit-drops.runs is)
       (keeps-both FitAndLate (AreFew 0) keeps-late (keeps-few 0));
-  closes = λ i s there h. pack (i.item ∷ []) (close i.call s) (keeps-calls.closes i s there h.0)
+  closes = λ i s there h. pack (i.item ∷ []) (close i.call s) (fit-drops.closes i s there h.0)
       (either (late-issues_left (λ (other : Issue). not (i.call == other.call)) s) (λ k. k) h.1.0.1)
-      ((few-calls 0).closes i s there h.1.1);
-  reopens = λ s h. pack (map item_of s.issues) (record s { issues = [] }) (keeps-calls.reopens s h.0)
-      (either (λ (k : Late s). late-issues [] s tt k) (λ k. k) h.1.0.1) ((few-calls 0).reopens s h.1.1);
-  drops = λ i is s h. pack is s (keeps-calls.drops i is s h.0) h.1.0.1 h.1.1;
+      ((few-drops 0).closes i s there h.1.1);
+  reopens = λ s h. pack (map item_of s.issues) (record s { issues = [] }) (fit-drops.reopens s h.0)
+      (either (λ (k : Late s). late-issues [] s tt k) (λ k. k) h.1.0.1) ((few-drops 0).reopens s h.1.1);
+  drops = λ i is s h. pack is s (fit-drops.drops i is s h.0) h.1.0.1 h.1.1;
   retries = λ i is a r s live new h.
-      pack is (queue (again i a s) s) (keeps-calls.retries i is a r s live new h.0) h.1.0.1 h.1.1;
+      pack is (queue (again i a s) s) (fit-drops.retries i is a r s live new h.0) h.1.0.1 h.1.1;
   requeues = λ i is r s live new h.
-      pack is (queue (record i { due = s.moment }) s) (keeps-calls.requeues i is r s live new h.0) h.1.0.1 h.1.1;
-}
+      pack is (queue (record i { due = s.moment }) s) (fit-drops.requeues i is r s live new h.0) h.1.0.1 h.1.1;
+})
 
 or-moved : (t : ℕ) (next : Next) (s : State) → due_by t s ≡ Some next → LateOrHigh s
     → LateOrHigh (record s { moment = next.due })

@@ -31,7 +31,7 @@ use Rattle.run_model.proofs.FitEvents.{find-last, found-left}
 use Rattle.run_model.proofs.FitRuns.{all-queued}
 use Rattle.run_model.proofs.FitWindows.{not-true}
 use Rattle.run_model.proofs.Kept.{Adds, IsLive, Keeps, freely, run_from, window_after, with_offer}
-use Rattle.run_model.proofs.KeptReplies.{KeepsCalls}
+use Rattle.run_model.proofs.KeptReplies.{KeepsCalls, dropping}
 use Rattle.run_model.proofs.KeptSteps.{KeepsSteps, goes-on, kept-act, kept-advance, kept-step}
 use Rattle.run_model.proofs.Members.{in-all, in-found}
 use Rattle.run_model.proofs.SettlingLists.{find-map, found-passes}
@@ -43,16 +43,16 @@ use Rattle.run_model.proofs.SettlingOuts.{Says, said-step}
 abbrev Same : (Run → Run) → Type 0
 Same f = (r : Run) → ((f r).number ≡ r.number) × ((f r).steps.recorded ≡ r.steps.recorded)
 
-abbrev change : ℕ → (Run → Run) → Run → Run
+abbrev pub change : ℕ → (Run → Run) → Run → Run
 change number f r = cond (number == r.number) (f r) r
 
-change-number : (number : ℕ) (f : Run → Run) → ((r : Run) → (f r).number ≡ r.number) → (r : Run)
+pub change-number : (number : ℕ) (f : Run → Run) → ((r : Run) → (f r).number ≡ r.number) → (r : Run)
     → (change number f r).number ≡ r.number
 change-number number f same r =
     elim (number == r.number) as (λ b. (cond b (f r) r).number ≡ r.number) [ true ↦ same r | false ↦ refl ]
 
 -- the run of a number is the one that was, changed where it is the one that changes
-found-changed : (run number : ℕ) (f : Run → Run) (live : List Run) → ((r : Run) → (f r).number ≡ r.number)
+pub found-changed : (run number : ℕ) (f : Run → Run) (live : List Run) → ((r : Run) → (f r).number ≡ r.number)
     → find (λ (r : Run). run == r.number) (changed number f live)
     ≡ option_map (change number f) (find (λ (r : Run). run == r.number) live)
 found-changed run number f live same =
@@ -244,7 +244,7 @@ keeps-new = freely AreItemsNew (record {
 })
 
 new-calls : KeepsCalls (λ is s. AreItemsNew s)
-new-calls = record {
+new-calls = dropping (λ is s. AreItemsNew s) (record {
   runs = λ is. keeps-new;
   closes = λ i s there h. h;
   reopens = λ s h. h;
@@ -253,7 +253,7 @@ new-calls = record {
       (λ step. subst (λ found. IfSome found (Lacks i.target)) (sym live) new) h;
   requeues = λ i is r s live new h. items-queued (record i { due = s.moment }) s
       (λ step. subst (λ found. IfSome found (Lacks i.target)) (sym live) new) h;
-}
+})
 
 pub new-issue : (i : Item) (s : State) → AreItemsNew s → AreItemsNew (issue i s)
 new-issue i s h =

@@ -1,5 +1,5 @@
 -- Making a run: its rules, and its first item.
-use Rattle.std.specs.Prelude.{ℕ, ℤ, pos, ◌*ℤ◌, ◌-ℤ◌, ◌+◌, ◌==◌, Bool, true, false, not, ◌&&◌, ◌||◌, List, [], ◌∷◌, ◌++◌, codes, Option, Some, None, if◌then◌else◌, bytes_eq}
+use Rattle.std.specs.Prelude.{ℕ, ◌+◌, Bool, true, false, not, ◌&&◌, ◌||◌, List, [], ◌∷◌, ◌++◌, Option, None, if◌then◌else◌}
 use Rattle.std.specs.List.{list_any}
 use Rattle.std.specs.Option.{option_map}
 use Rattle.kinds.specs.Queue.{insert_item}
@@ -16,7 +16,7 @@ pub use Rattle.runs.specs.Runs.{first_of, score_of}
 use Rattle.event_keys.specs.Buckets.{bucket_of}
 use Rattle.event_keys.specs.Cells.{cells_of, start_of}
 use Rattle.event_keys.specs.Expressions.{priority_shift}
-use Rattle.run_model.specs.State.{State, Run, Issue, EventText, text_of}
+use Rattle.run_model.specs.State.{State, Run, Issue, text_of}
 
 -- ## Items
 

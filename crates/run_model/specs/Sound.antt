@@ -33,6 +33,7 @@ use Rattle.event_keys.specs.Cells.{cells_of, start_of}
 use Rattle.run_model.specs.Advance.{due_of, timed}
 use Rattle.run_model.specs.Ends.{first_text, is_invocation_of}
 use Rattle.run_model.specs.Making.{first_of, is_item_of, score_of, step_target, unless}
+use Rattle.run_model.specs.Recording.{is_pending_in}
 use Rattle.run_model.specs.Settle.{next_issued}
 use Rattle.run_model.specs.State.{State, Run, Issue, EventText, Sleep, Waiting, Invocation, EndedRun, function_at, has_open_call, is_in, is_named, is_version_named, issue_entries, live_run, text_of}
 
@@ -167,6 +168,13 @@ pub record AwaitsOnce (s : State) : Type 0 where
   pub sleeps : AllByRecursion (λ (e : Sleep). IsPendingIn s e.run e.hash) s.sleeps
   pub waits : AllByRecursion (λ (e : Waiting). IsPendingIn s e.wait.run e.hash) s.waits
   pub invocations : AllByRecursion (λ (e : Invocation). IsPendingIn s e.run e.hash) s.invocations
+
+-- the end of a sleep, a wait or an invocation is recorded: its run has not ended, and its step waits still
+pub record Wakes (s : State) : Type 0 where
+  pub sleeps : AllByRecursion (λ (e : Sleep). is_pending_in e.hash (live_run e.run s) ≡ true) s.sleeps
+  pub waits : AllByRecursion (λ (e : Waiting). is_pending_in e.hash (live_run e.wait.run s) ≡ true) s.waits
+  pub invocations :
+      AllByRecursion (λ (e : Invocation). is_pending_in e.hash (live_run e.run s) ≡ true) s.invocations
 
 -- the queued items and the open calls with a target
 abbrev pub items_for : State → ℕ → List ℕ → List Item

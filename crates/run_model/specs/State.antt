@@ -1,24 +1,17 @@
 -- The state of the documented machine with runs: plain lists in order of making, and the counts of what was
 -- named.
-use Rattle.std.specs.Prelude.{ℕ, ℤ, ◌+◌, ◌-◌, ◌==◌, Bool, ◌||◌, List, [], ◌∷◌, ◌++◌, map, filter, find, length, take, drop, min, max, Option}
+use Rattle.std.specs.Prelude.{ℕ, ◌+◌, ◌==◌, Bool, ◌||◌, List, [], ◌++◌, map, filter, find, length, min, max, Option}
 use Rattle.std.specs.List.{list_any}
 use Rattle.kinds.specs.Moments.{last_moment}
-use Rattle.kinds.specs.RunSteps.{RunSteps}
 use Rattle.kinds.specs.Cells.{later_starts}
 use Rattle.kinds.specs.Seen.{remembered, weight_of}
 use Rattle.kinds.specs.Windows as windows
-use Rattle.kinds.specs.declared.cell.Cell.{Cell}
-use Rattle.kinds.specs.declared.cell.CellLimit.{CellLimit}
 use Rattle.kinds.specs.declared.cell.IssueEntry.{IssueEntry}
 use Rattle.kinds.specs.declared.cell.StartEntry.{StartEntry}
 use Rattle.kinds.specs.declared.limits.Limits.{Limits}
 use Rattle.kinds.specs.declared.seen.SeenEntry.{SeenEntry}
 use Rattle.kinds.specs.declared.store.Item.{Item}
-use Rattle.kinds.specs.declared.store.Parent.{Parent}
 use Rattle.kinds.specs.declared.store.Rule.{Rule}
-use Rattle.kinds.specs.declared.store.RunStatus.{RunStatus}
-use Rattle.kinds.specs.declared.store.StepEntry.{StepEntry}
-use Rattle.kinds.specs.declared.store.Wait.{Wait}
 use Rattle.kinds.specs.declared.window.Window.{Window}
 use Rattle.functions.specs.declared.entry.FunctionEntry.{FunctionEntry}
 pub use Rattle.admission.specs.Issues.{has_open_call, in_cells}

@@ -4,6 +4,7 @@
 
 mod calls;
 mod fit;
+mod going;
 mod items;
 mod laws;
 mod settling;
@@ -11,6 +12,9 @@ mod waiting;
 
 pub use calls::{items_stay_new, limits_are_kept, recorded_steps_are_not_called};
 pub use fit::{empty_is_fit, histories_are_fit, steps_stay_fit};
+pub use going::{
+    live_runs_can_go_on, wanted_runs_find_out, what_falls_due_is_recorded, what_waits_is_pending,
+};
 pub use items::{
     ended_calls_leave_items_aside, items_have_own_numbers, items_keep_own_numbers,
     operations_leave_items_aside,
