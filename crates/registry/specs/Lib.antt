@@ -5,5 +5,6 @@ pub mod Faults
 pub mod Flows
 pub mod Functions
 pub mod Members
+pub mod Ranges
 pub mod Steps
 pub mod Triggers

@@ -11,6 +11,7 @@ mod fault;
 mod flaw;
 mod flow;
 mod function;
+mod laws;
 mod limit;
 mod member;
 mod part;
@@ -21,4 +22,5 @@ mod window;
 
 pub use app::read_app;
 pub use fault::RegisterFault;
+pub use laws::read_functions_are_in_range;
 pub use member::Member;

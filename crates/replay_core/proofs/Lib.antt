@@ -5,6 +5,7 @@ mod LogLemmas
 mod LogRun
 mod LoggedLemmas
 mod PiecesLemmas
+mod PrintLemmas
 mod ReaderLemmas
 mod ReplayLemmas
 mod RunLemmas

@@ -113,8 +113,8 @@ fn comment(alloc: Global, size: usize) -> Result<Vec<u8>, Fail> {
 }
 
 #[test]
-fn limit_of_a_script(rt: HostRuntime) -> Result<(), Fail> {
-    let mut script = comment(rt.alloc(), 1_048_576)?;
+fn limit_of_a_line(rt: HostRuntime) -> Result<(), Fail> {
+    let mut script = comment(rt.alloc(), 5_242_880)?;
     check(
         &rt,
         &script,
@@ -149,7 +149,7 @@ fn words_are_refused(rt: HostRuntime) -> Result<(), Fail> {
     );
     assert_eq!(rt; status, Status::Usage);
     assert_eq!(rt; status.number(), 2);
-    assert_eq!(rt; out.written(), b"usage: replay\n".as_slice());
+    assert_eq!(rt; out.written(), b"usage: replay [--brief]\n".as_slice());
     assert_eq!(rt; input.read_count(), 0);
     Ok(())
 }
