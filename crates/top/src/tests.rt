@@ -40,8 +40,29 @@ pub(crate) fn check(
     ends(rt, &mut input, &mut out, printed, status)
 }
 
+// Runs the script of a source with these words, and checks what is printed.
+pub(crate) fn prints(
+    rt: &(impl Abort + AllocGlobal),
+    words: &[String],
+    input: &mut MemSource,
+    printed: &str,
+) -> Result<(), Fail> {
+    let mut rig = MemRig::new(rt.alloc(), 0)?;
+    let mut out = MemSink::new(rt.alloc());
+    run(
+        rt.alloc(),
+        Program::Replay,
+        words,
+        &mut rig,
+        input,
+        &mut out,
+    );
+    assert_eq!(rt; str::from_utf8(out.written()), Ok(printed));
+    Ok(())
+}
+
 // The lines of a row, each ended by a `|`.
-fn lines_of(alloc: Global, text: &str) -> Result<String, Fail> {
+pub(crate) fn lines_of(alloc: Global, text: &str) -> Result<String, Fail> {
     Ok(text.replace(alloc, "|", "\n")?)
 }
 
