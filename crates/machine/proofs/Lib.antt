@@ -2,8 +2,11 @@ pub mod Changed
 pub mod Discovered
 pub mod Found
 pub mod HeldEvents
+pub mod HeldFunctions
 pub mod HeldMaking
 pub mod HeldRecording
 pub mod HeldWords
 pub mod Joined
 pub mod NextHeld
+pub mod VersionLemmas
+pub mod VersionSearch

@@ -119,9 +119,8 @@ impl Parts {
         ensures state { OnOk result
             (Becomes (with_functions app (state_of self.old)) self.old self.new) }
     {
-        for entry in self.versions.current() {
-            self.loose.versions.insert(entry.version)?;
-        }
+        let touched = self.versions.current_versions()?;
+        self.loose.versions.insert_all(touched.as_slice())?;
         let change = self.versions.register(app, self.counts.versions)?;
         self.counts.versions = change.versions;
         Ok(change.modified)

@@ -1,12 +1,14 @@
-ghost use Rattle.std.specs.Prelude.{◌≡◌, ◌+◌, ◌<◌, ◌≤◌, ◌^◌, ◌==◌, ◌++◌, filter, find, length, not, IfOk, OnOk, bytes_eq};
+ghost use Rattle.std.specs.Prelude.{◌≡◌, ◌+◌, ◌<◌, ◌≤◌, ◌^◌, ◌==◌, ◌++◌, ◌∷◌, [], filter, find, length, map, not, IfOk, OnOk, bytes_eq};
+ghost use Rattle.std.specs.Bool.{OnTrue};
 ghost use Rattle.std.specs.List.{AllByRecursion};
 ghost use Rattle.std.specs.Option.{option_copied};
-ghost use Rattle.functions.specs.Functions.{current_after, is_modified, new_in, registered, stays};
-ghost use Rattle.machine.specs.Versions.{no_versions, version_at};
+ghost use Rattle.functions.specs.Functions.{current_after, is_modified, new_in, registered, stays, version_of};
+ghost use Rattle.lists.specs.Entries.{insert_by};
+ghost use Rattle.machine.specs.Versions.{AreFresh, no_versions, version_at};
 ghost use Rattle.run_model.specs.Machine.{insert_all};
 
 use functions::{FunctionEntry, Functions};
-use kinds::App;
+use kinds::{App, Function, Numbers};
 use lists::{Items, Memory};
 use std::alloc::Global;
 use std::collections::BTreeMap;
@@ -22,13 +24,13 @@ pub(crate) struct Versions {
 
 impl Model for Versions {
     ghost use Rattle.std.specs.BTreeMap.{values};
-    ghost use Rattle.machine.specs.Versions.{Versions, IsRetired};
+    ghost use Rattle.machine.specs.Versions.{Versions, AreVersioned};
 
     ghost Value = { Versions };
 
     ghost view = { λ v. record { current = v.current; retired = values v.retired } };
 
-    ghost invariant = { λ v. IsRetired v.retired.entries };
+    ghost invariant = { λ v. AreVersioned v.current v.retired.entries };
 }
 
 /// What a registration changed: how many versions were given so far, and whether the list of current functions is
@@ -79,7 +81,10 @@ impl Versions {
         ensures { option_copied result ≡ find (λ f. version == f.version) self.now.current }
     {
         let current = self.current.as_slice();
-        current.iter().find(|entry| version == entry.version)
+        match current.binary_search_by_key(&version, |entry| entry.version) {
+            Ok(place) => Some(&current[place]),
+            Err(_) => None,
+        }
     }
 
     /// A current function by its id.
@@ -93,10 +98,21 @@ impl Versions {
             .find(|entry| id == entry.function.id.as_slice())
     }
 
-    /// The functions of an application take the place of those that it had, which are retired. Want of memory spends
-    /// the functions.
+    /// The versions of the current functions, in order.
+    pub(crate) fn current_versions(&self) -> Result<Numbers, Memory>
+        ensures { IfOk result (λ ns. ns ≡ map version_of self.now.current) }
+    {
+        let mut versions = Items::new(self.alloc);
+        for entry in self.current() {
+            versions.push(entry.version)?;
+        }
+        Ok(versions)
+    }
+
+    /// The functions of an application take the place of those that it had, which are retired. Want of memory, and of
+    /// numbers, spends the functions.
     pub(crate) fn register(&mut self, app: App, versions: u64) -> Result<Change, Memory>
-        requires room { versions + length app.functions < 2 ^ 64 }
+        requires given { AllByRecursion (λ f. f.version ≤ versions) (self.old.current ++ self.old.retired) }
         ensures current { OnOk result (self.new.current ≡ registered app versions self.old.current) }
         ensures retired { OnOk result (self.new.retired
             ≡ insert_all (filter (λ f. not (stays app f)) self.old.current) self.old.retired) }
@@ -104,6 +120,9 @@ impl Versions {
         ensures modified { IfOk result (λ c. c.modified
             ≡ is_modified self.old.current (registered app versions self.old.current)) }
     {
+        if !has_room(versions, app.functions.as_slice()) {
+            return Err(Memory);
+        }
         let before = std::mem::replace(&mut self.current, Functions::empty(self.alloc));
         let registered = before.register(self.alloc, app, versions)?;
         self.current = registered.functions;
@@ -115,12 +134,22 @@ impl Versions {
     }
 
     fn retire(&mut self, replaced: Items<FunctionEntry>) -> Result<(), Memory>
+        requires { AreFresh replaced self.old }
         ensures current { self.new.current ≡ self.old.current }
         ensures retired { OnOk result (self.new.retired ≡ insert_all replaced self.old.retired) }
     {
         for entry in replaced {
-            self.retired.insert(entry.version, entry)?;
+            self.retire_one(entry)?;
         }
+        Ok(())
+    }
+
+    fn retire_one(&mut self, entry: FunctionEntry) -> Result<(), Memory>
+        requires { AreFresh (entry ∷ []) self.old }
+        ensures current { self.new.current ≡ self.old.current }
+        ensures retired { OnOk result (self.new.retired ≡ insert_by version_of entry self.old.retired) }
+    {
+        self.retired.insert(entry.version, entry)?;
         Ok(())
     }
 
@@ -131,4 +160,11 @@ impl Versions {
     {
         self.retired.remove(&version);
     }
+}
+
+// Whether each function can have a version of its own.
+fn has_room(versions: u64, functions: &[Function]) -> bool
+    ensures { OnTrue result (versions + length functions.now < 2 ^ 64) }
+{
+    functions.len() as u64 <= u64::MAX - versions
 }

@@ -14,7 +14,7 @@ returns-in-Some c =
 pub returns-in-None : goal.returns-in-None
 returns-in-None c =
     c.get.ensures.value
-    ∙ numbered_found version_of c.self.inside.retired.entries c.args.version c.self.invariant
+    ∙ numbered_found version_of c.self.inside.retired.entries c.args.version c.self.invariant.stored
     ∙ ap (λ (v : Versions). find (λ (f : FunctionEntry). c.args.version == f.version) v.retired) c.self.view_is
     ∙ sym (found-back (λ (f : FunctionEntry). c.args.version == f.version) c.args.self.now.current
     c.args.self.now.retired (sym c.in-None.ensures))
