@@ -49,6 +49,23 @@ pub record KeepsSteps (bound : ℕ) (A : Input → Type 0) (P : List Item → St
   pub registers : (at : ℕ) (app : App) (s : State) → A (Register at app) → P [] s → P [] (with_functions app s)
   pub tidies : (s : State) → P [] s → P [] (tidied s)
 
+-- what an input does, once time has gone on to its moment
+pub record KeepsActs (A : Input → Type 0) (P : List Item → State → Type 0) : Type 0 where
+  pub calls : KeepsCalls P
+  pub issues : (number : ℕ) (i : Item) (s : State) → next_issued s ≡ Some number → item_at number s ≡ Some i
+      → P [] s → P [] (issue i s)
+  pub registers : (at : ℕ) (app : App) (s : State) → A (Register at app) → P [] s → P [] (with_functions app s)
+  pub tidies : (s : State) → P [] s → P [] (tidied s)
+
+pub acts-of : (bound : ℕ) (A : Input → Type 0) (P : List Item → State → Type 0) → KeepsSteps bound A P
+    → KeepsActs A P
+acts-of bound A P keeps = record {
+  calls = keeps.calls;
+  issues = keeps.issues;
+  registers = keeps.registers;
+  tidies = keeps.tidies;
+}
+
 -- ## What is due is there
 
 abbrev pub IsThere : State → Timed → Type 0
@@ -122,6 +139,75 @@ has_version version f = version == f.version
 pub goes-on : (a b : ℕ) → a ≤ max a b
 goes-on a b = grind arith
 
+module _ (A : Input → Type 0) (P : List Item → State → Type 0) (keeps : KeepsActs A P) where
+  -- ## Calls
+
+  pub acted-issue_of : (number : ℕ) (run : Option Run) (i : Item) (a : Settled) → next_issued a.state ≡ Some number
+      → item_at number a.state ≡ Some i → P [] a.state → P [] (issue_of run i a).state
+  acted-issue_of number None i a e there h = keeps.issues number i a.state e there h
+  acted-issue_of number (Some r) i a e there h = keeps.issues number i a.state e there h
+
+  pub acted-issue_found : (number : ℕ) (found : Option Item) (a : Settled) → next_issued a.state ≡ Some number
+      → item_at number a.state ≡ found → P [] a.state → P [] (issue_found found a).state
+  acted-issue_found number None a e there h = h
+  acted-issue_found number (Some i) a e there h =
+      acted-issue_of number (live_run i.run a.state) i a e there h
+
+  pub acted-settle_by : (n : ℕ) (a : Settled) → P [] a.state → P [] (settle_by n a).state
+  unfolding settle_by
+  acted-settle_by zero a h = h
+  acted-settle_by (suc n) a h =
+      (elim (next_issued a.state) as (λ o. next_issued a.state ≡ o → P [] (elim o as (λ _. Settled)
+      [ None ↦ a | Some number ↦ settle_by n (issue_found (item_at number a.state) a) ]).state) [
+        | None ↦ λ e. h
+        | Some number ↦ λ e. acted-settle_by n (issue_found (item_at number a.state) a)
+            (acted-issue_found number (item_at number a.state) a e refl h)
+      ]) refl
+
+  -- ## Reopening
+
+  pub acted-requeue_found : (i : Item) (is : List Item) (found : Option Run) (s : State) → live_run i.run s ≡ found
+      → P (i ∷ is) s → P is (requeue_found i found s)
+  acted-requeue_found i is None s e h = keeps.calls.drops i is s e h
+  acted-requeue_found i is (Some r) s e h =
+      (elim (is_recorded i.target r.steps) as (λ b. is_recorded i.target r.steps ≡ b
+      → P is (elim b as (λ _. State)
+      [ true ↦ change_run r.number want s | false ↦ queue (record i { due = s.moment }) s ])) [
+        | true ↦ λ done. keeps.calls.calls_off i is r s e done h
+        | false ↦ λ new. keeps.calls.requeues i is r s e new h
+      ]) refl
+
+  pub acted-requeue_all : (is : List Issue) (s : State) → P (map item_of is) s → P [] (requeue_all is s)
+  acted-requeue_all [] s h = h
+  acted-requeue_all (i ∷ is) s h =
+      acted-requeue_all is (requeue_found i.item (live_run i.item.run s) s)
+      (acted-requeue_found i.item (map item_of is) (live_run i.item.run s) s refl h)
+
+  pub acted-reopen : (s : State) → P [] s → P [] (reopen s)
+  acted-reopen s h =
+      kept-discover (P []) (keeps.calls.runs []) (requeue_all s.issues (record s { issues = [] }))
+      (acted-requeue_all s.issues (record s { issues = [] }) (keeps.calls.reopens s h))
+
+  -- ## An input
+
+  pub acted : (input : Input) (s : State) → A input → P [] s → P [] (act input s).state
+  unfolding act
+  acted (Events at events) s asked h =
+      kept-on_events (P []) (keeps.calls.runs []) events (record { state = s; numbers = [] }) h
+  acted (Register at app) s asked h = keeps.registers at app s asked h
+  acted (Reply at call reply) s asked h = kept-on_reply P keeps.calls call reply s h
+  acted (CallFailed at call) s asked h = kept-on_call_failed P keeps.calls call s h
+  acted (Tick at) s asked h = h
+  acted (Cancel at run) s asked h =
+      kept-cancel_found (P []) (keeps.calls.runs []) run (live_run run s) s refl h
+  acted (Reopened at) s asked h = acted-reopen s h
+
+  -- what is issued after an input, and what then stays
+  pub acted-settled : (s : State) → P [] s → P [] (tidied (settle (record { state = s; outs = [] })).state)
+  acted-settled s h =
+      let a : Settled = record { state = s; outs = [] } in
+      keeps.tidies (settle a).state (acted-settle_by (length s.items) a h)
+
 module _ (bound : ℕ) (A : Input → Type 0) (P : List Item → State → Type 0) (keeps : KeepsSteps bound A P) where
   -- ## What is due
 
@@ -170,80 +256,23 @@ module _ (bound : ℕ) (A : Input → Type 0) (P : List Item → State → Type 
   kept-advance t s low goes_on h =
       keeps.arrives t s low goes_on h (kept-fire_by most t (record { state = s; hangs = [] }) low h)
 
-  -- ## Calls
-
-  pub kept-issue_of : (number : ℕ) (run : Option Run) (i : Item) (a : Settled) → next_issued a.state ≡ Some number
-      → item_at number a.state ≡ Some i → P [] a.state → P [] (issue_of run i a).state
-  kept-issue_of number None i a e there h = keeps.issues number i a.state e there h
-  kept-issue_of number (Some r) i a e there h = keeps.issues number i a.state e there h
-
-  pub kept-issue_found : (number : ℕ) (found : Option Item) (a : Settled) → next_issued a.state ≡ Some number
-      → item_at number a.state ≡ found → P [] a.state → P [] (issue_found found a).state
-  kept-issue_found number None a e there h = h
-  kept-issue_found number (Some i) a e there h =
-      kept-issue_of number (live_run i.run a.state) i a e there h
-
-  pub kept-settle_by : (n : ℕ) (a : Settled) → P [] a.state → P [] (settle_by n a).state
-  unfolding settle_by
-  kept-settle_by zero a h = h
-  kept-settle_by (suc n) a h =
-      (elim (next_issued a.state) as (λ o. next_issued a.state ≡ o → P [] (elim o as (λ _. Settled)
-      [ None ↦ a | Some number ↦ settle_by n (issue_found (item_at number a.state) a) ]).state) [
-        | None ↦ λ e. h
-        | Some number ↦ λ e. kept-settle_by n (issue_found (item_at number a.state) a)
-            (kept-issue_found number (item_at number a.state) a e refl h)
-      ]) refl
-
-  -- ## Reopening
-
-  pub kept-requeue_found : (i : Item) (is : List Item) (found : Option Run) (s : State) → live_run i.run s ≡ found
-      → P (i ∷ is) s → P is (requeue_found i found s)
-  kept-requeue_found i is None s e h = keeps.calls.drops i is s e h
-  kept-requeue_found i is (Some r) s e h =
-      (elim (is_recorded i.target r.steps) as (λ b. is_recorded i.target r.steps ≡ b
-      → P is (elim b as (λ _. State)
-      [ true ↦ change_run r.number want s | false ↦ queue (record i { due = s.moment }) s ])) [
-        | true ↦ λ done. keeps.calls.calls_off i is r s e done h
-        | false ↦ λ new. keeps.calls.requeues i is r s e new h
-      ]) refl
-
-  pub kept-requeue_all : (is : List Issue) (s : State) → P (map item_of is) s → P [] (requeue_all is s)
-  kept-requeue_all [] s h = h
-  kept-requeue_all (i ∷ is) s h =
-      kept-requeue_all is (requeue_found i.item (live_run i.item.run s) s)
-      (kept-requeue_found i.item (map item_of is) (live_run i.item.run s) s refl h)
-
-  pub kept-reopen : (s : State) → P [] s → P [] (reopen s)
-  kept-reopen s h =
-      kept-discover (P []) (keeps.calls.runs []) (requeue_all s.issues (record s { issues = [] }))
-      (kept-requeue_all s.issues (record s { issues = [] }) (keeps.calls.reopens s h))
-
   -- ## A step
 
-  pub kept-act : (input : Input) (s : State) → A input → P [] s → P [] (act input s).state
-  unfolding act
-  kept-act (Events at events) s asked h =
-      kept-on_events (P []) (keeps.calls.runs []) events (record { state = s; numbers = [] }) h
-  kept-act (Register at app) s asked h = keeps.registers at app s asked h
-  kept-act (Reply at call reply) s asked h = kept-on_reply P keeps.calls call reply s h
-  kept-act (CallFailed at call) s asked h = kept-on_call_failed P keeps.calls call s h
-  kept-act (Tick at) s asked h = h
-  kept-act (Cancel at run) s asked h =
-      kept-cancel_found (P []) (keeps.calls.runs []) run (live_run run s) s refl h
-  kept-act (Reopened at) s asked h = kept-reopen s h
+  pub kept-settle_by : (n : ℕ) (a : Settled) → P [] a.state → P [] (settle_by n a).state
+  kept-settle_by n a h = acted-settle_by A P (acts-of bound A P keeps) n a h
 
-  -- what is issued after an input, and what then stays
-  pub kept-settled : (s : State) → P [] s → P [] (tidied (settle (record { state = s; outs = [] })).state)
-  kept-settled s h =
-      let a : Settled = record { state = s; outs = [] } in
-      keeps.tidies (settle a).state (kept-settle_by (length s.items) a h)
+  pub kept-reopen : (s : State) → P [] s → P [] (reopen s)
+  kept-reopen s h = acted-reopen A P (acts-of bound A P keeps) s h
+
+  pub kept-act : (input : Input) (s : State) → A input → P [] s → P [] (act input s).state
+  kept-act input s asked h = acted A P (acts-of bound A P keeps) input s asked h
 
   pub kept-step : (s : State) (input : Input) → moment_at (reading input) s ≤ bound → A input → P [] s
       → P [] (step s input).state
   unfolding step
   kept-step s input low asked h =
       let a : Advanced = advance (moment_at (reading input) s) (count_input s) in
-      kept-settled (act input a.state).state
+      acted-settled A P (acts-of bound A P keeps) (act input a.state).state
       (kept-act input a.state asked
       (kept-advance (moment_at (reading input) s) (count_input s) low
       (goes-on s.moment (min (reading input) last_moment)) (keeps.counts s h)))

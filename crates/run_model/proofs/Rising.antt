@@ -57,7 +57,7 @@ rule_number e = e.number
 abbrev pub run_number : Run → ℕ
 run_number r = r.number
 
-rise-more : (count : ℕ) (ns : List ℕ) → RiseTo count ns → RiseTo (count + 1) ns
+pub rise-more : (count : ℕ) (ns : List ℕ) → RiseTo count ns → RiseTo (count + 1) ns
 rise-more count ns h = (
   h.0,
   all-weaker (λ n. n ≤ count) (λ n. n ≤ count + 1) ns (λ n (low : n ≤ count). omega (arith, low)) h.1,

@@ -1,7 +1,8 @@
 -- What the laws of histories speak of.
-use Rattle.std.specs.Prelude.{◌≡◌, ◌≤◌, ◌<◌, ◌⊎◌, ℕ, List, [], ◌∷◌, ◌++◌}
+use Rattle.std.specs.Prelude.{◌≡◌, ◌≢◌, ◌≤◌, ◌<◌, ◌⊎◌, ℕ, List, [], ◌∷◌, ◌++◌}
 use Rattle.std.specs.List.{AllByRecursion}
 use Rattle.std.specs.Option.{IfSome}
+use Rattle.kinds.specs.declared.function.Function.{Function}
 use Rattle.kinds.specs.declared.input.Input.{Input}
 use Rattle.kinds.specs.declared.input.Input.TheVariants.{Register, Tick}
 use Rattle.kinds.specs.declared.store.StepEntry.{StepEntry}
@@ -37,3 +38,13 @@ HasFunctions versions fs s = (s.versions ≡ versions) × (s.functions ≡ fs)
 abbrev pub IsNoRegistration : Input → Type 0
 IsNoRegistration (Register at app) = ⊥
 IsNoRegistration _ = Unit {0}
+
+-- no two functions have one id
+abbrev pub HaveOwnIds : List Function → Type 0
+HaveOwnIds [] = Unit {0}
+HaveOwnIds (f ∷ fs) = AllByRecursion (λ (later : Function). f.id ≢ later.id) fs × HaveOwnIds fs
+
+-- a registration names no id twice
+abbrev pub IsFormed : Input → Type 0
+IsFormed (Register at app) = HaveOwnIds app.functions
+IsFormed _ = Unit {0}

@@ -293,6 +293,20 @@ pub record Invokes (s : State) : Type 0 where
 
 -- ## Ids and windows
 
+-- a remembered id is of an event that was numbered, not after the moment, and still tells a repeated event
+pub record IsSeen (s : State) (e : SeenEntry) : Type 0 where
+  pub numbered : e.number ≤ s.events
+  pub dated : e.moment ≤ s.moment
+  pub remembered : is_remembered s.moment e ≡ true
+
+abbrev pub StandsApart : SeenEntry → SeenEntry → Type 0
+StandsApart e later = (e.number < later.number) × (e.id ≢ later.id)
+
+-- remembered ids stand by number, and no two are equal
+pub record RemembersOnce (s : State) : Type 0 where
+  pub entries : AllByRecursion (IsSeen s) s.seen
+  pub apart : ArePairwise StandsApart s.seen
+
 pub record AreUnique (s : State) : Type 0 where
   pub seen : AreApart (λ (e : SeenEntry). e.id) s.seen
   pub functions : AreApart (λ (f : FunctionEntry). f.function.id) s.functions
