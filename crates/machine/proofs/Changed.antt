@@ -48,7 +48,7 @@ any-changed p number f same (r ∷ rs) =
     ap (λ b. b || list_any p (changed number f rs)) (same-one p f same (number == r.number) r)
     ∙ ap (λ b. p r || b) (any-changed p number f same rs)
 
-all-changed-by : (P Q : Run → Type 0) (number : ℕ) (f : Run → Run) (rs : List Run)
+pub all-changed-by : (P Q : Run → Type 0) (number : ℕ) (f : Run → Run) (rs : List Run)
     → ((r : Run) → P r → Q (one_changed number f r)) → AllByRecursion P rs → AllByRecursion Q (changed number f rs)
 all-changed-by P Q number f [] keeps h = tt
 all-changed-by P Q number f (r ∷ rs) keeps h = (keeps r h.0, all-changed-by P Q number f rs keeps h.1)

@@ -1,12 +1,15 @@
 pub mod Changed
 pub mod Discovered
+pub mod Empty
 pub mod Found
 pub mod HeldEvents
 pub mod HeldFunctions
 pub mod HeldMaking
 pub mod HeldRecording
+pub mod HeldSettle
 pub mod HeldWords
 pub mod Joined
 pub mod NextHeld
 pub mod VersionLemmas
 pub mod VersionSearch
+pub mod ViewLemmas

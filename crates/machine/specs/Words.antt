@@ -17,7 +17,7 @@ use Rattle.run_model.specs.Next.{View}
 use Rattle.run_model.specs.Recording as recording
 use Rattle.run_model.specs.Replies.{retries_of}
 use Rattle.run_model.specs.Requests.{Answering, repeats}
-use Rattle.run_model.specs.Settle.{Settled, call_found, issue_found, item_at}
+use Rattle.run_model.specs.Settle.{Settled, call_found, issue, issue_found, item_at}
 use Rattle.run_model.specs.State.{State, Run, Issue, function_at, last_ended, live_run, text_of}
 use Rattle.machine.specs.declared.recording.Discovery.{Discovery}
 use Rattle.machine.specs.declared.recording.Discovery.TheVariants.{AtOnce, AtTheEnd}
@@ -109,6 +109,10 @@ number_for event s = given_number (repeats event s) (s.events + 1)
 
 abbrev pub with_outs : List Out → State → Settled
 with_outs outs s = record { state = s; outs = outs }
+
+abbrev pub issue_at : Option Item → State → State
+issue_at None s = s
+issue_at (Some i) s = issue i s
 
 -- the item of this number is issued
 abbrev pub issued_at : ℕ → List Out → State → Settled

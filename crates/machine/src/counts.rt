@@ -64,6 +64,13 @@ impl Counts {
         Ok(self.calls)
     }
 
+    /// The number that the next call gets.
+    pub(crate) fn coming_call(&self) -> Result<u64, Memory>
+        ensures { IfOk result (λ n. n ≡ self.now.calls + 1) }
+    {
+        next(self.calls)
+    }
+
     /// The number of the next entry.
     pub(crate) fn next_entry(&mut self) -> Result<u64, Memory>
         ensures number { IfOk result (λ n. n ≡ self.old.entries + 1) }

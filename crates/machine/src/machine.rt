@@ -8,9 +8,8 @@ use crate::counts::Counts;
 use crate::loose::Loose;
 use crate::numbers::NumberSet;
 use crate::versions::Versions;
-use awaited::WindowSet;
 use admission::Admission;
-use awaited::{Invocations, Rules, Sleeps, Waits};
+use awaited::{Invocations, Rules, Sleeps, Waits, WindowSet};
 use event_texts::Texts;
 use intake::Seen;
 use kinds::{App, Input, Limits, Refusal};
@@ -172,10 +171,9 @@ impl Machine {
             (λ _. refusal_of_call call (open_issue call self.now) ≡ None)
             (λ cause. refusal_of_call call (open_issue call self.now) ≡ Some cause) }
     {
-        if self.parts.admission.is_open(call) {
-            Ok(())
-        } else {
-            Err(Refusal::UnknownCall { call })
+        match self.parts.admission.open_issue(call) {
+            Some(_) => Ok(()),
+            None => Err(Refusal::UnknownCall { call }),
         }
     }
 
@@ -185,12 +183,10 @@ impl Machine {
             (λ _. refusal_of_cancel run (live_run run self.now) self.now ≡ None)
             (λ cause. refusal_of_cancel run (live_run run self.now) self.now ≡ Some cause) }
     {
-        if self.parts.runs.live(run).is_some() {
-            Ok(())
-        } else if self.parts.ended.is_last(run) {
-            Err(Refusal::RunEnded { run })
-        } else {
-            Err(Refusal::UnknownRun { run })
+        match self.parts.runs.live(run) {
+            Some(_) => Ok(()),
+            None if self.parts.ended.is_last(run) => Err(Refusal::RunEnded { run }),
+            None => Err(Refusal::UnknownRun { run }),
         }
     }
 }

@@ -1,14 +1,18 @@
 // What can be looked at between two inputs.
-ghost use Rattle.std.specs.Prelude.{◌≡◌, IfOk};
+ghost use Rattle.std.specs.Prelude.{◌≡◌, IfOk, OnOk};
 ghost use Rattle.std.specs.Option.{option_map};
+ghost use Rattle.kinds.specs.Queue.{sooner};
+ghost use Rattle.lists.specs.Entries.{add_numbers};
 ghost use Rattle.machine.specs.Words.{runs_of, view_of};
 ghost use Rattle.run_model.specs.Ends.{id_at};
-ghost use Rattle.run_model.specs.Next.{next_moment, run_view, step_result, view_ended};
+ghost use Rattle.run_model.specs.Next.{next_moment, run_view, status_of, step_result, view_ended};
 ghost use Rattle.run_model.specs.State.{function_at};
 
 use crate::Machine;
 use kinds::{Numbers, RunStatus, StepHash};
 use lists::Memory;
+use runs::Run;
+use std::alloc::Global;
 use std::collections::BTreeSet;
 
 /// A run that has not ended, or is among the last thousand that have.
@@ -30,7 +34,7 @@ impl Machine {
     pub fn next_moment(&self) -> Option<u64>
         ensures { result ≡ next_moment self.now }
     {
-        sooner(self.parts.next_due(), self.parts.admission.next_item())
+        earliest(self.parts.next_due(), self.parts.admission.next_item())
     }
 
     /// A run that has not ended, or is among the last thousand that have. Takes no memory.
@@ -39,14 +43,10 @@ impl Machine {
     {
         match self.parts.runs.live(number) {
             Some(run) => Some(RunView {
-                number,
+                number: run.number(),
                 moment: run.moment(),
                 function: self.id_at(run.version()),
-                status: if run.has_started() {
-                    RunStatus::Running
-                } else {
-                    RunStatus::Queued
-                },
+                status: status_of(run),
                 events: run.events(),
             }),
             None => self.ended_view(number),
@@ -67,7 +67,7 @@ impl Machine {
     {
         let ended = self.parts.ended.get_last(number)?;
         Some(RunView {
-            number,
+            number: ended.run,
             moment: ended.moment,
             function: ended.function.as_slice(),
             status: ended.status,
@@ -89,24 +89,47 @@ impl Machine {
         let live = self.parts.runs.of_event(event)?;
         let ended = self.parts.ended.of_event(event)?;
         let mut runs = BTreeSet::new(self.parts.alloc);
-        for run in live {
-            runs.insert(run)?;
-        }
-        for run in ended {
-            runs.insert(run)?;
-        }
-        let mut all = Numbers::new(self.parts.alloc);
-        for run in runs {
-            all.push(run)?;
-        }
-        Ok(all)
+        add_all(&mut runs, live.as_slice())?;
+        add_all(&mut runs, ended.as_slice())?;
+        to_numbers(self.parts.alloc, &runs)
     }
 }
 
-fn sooner(one: Option<u64>, other: Option<u64>) -> Option<u64> {
+fn status_of(run: &Run) -> RunStatus
+    ensures { result ≡ status_of run.now }
+{
+    if run.has_started() {
+        RunStatus::Running
+    } else {
+        RunStatus::Queued
+    }
+}
+
+fn earliest(one: Option<u64>, other: Option<u64>) -> Option<u64>
+    ensures { result ≡ sooner one other }
+{
     match (one, other) {
         (Some(one), Some(other)) => Some(one.min(other)),
         (Some(one), None) => Some(one),
         (None, other) => other,
     }
+}
+
+fn add_all(set: &mut BTreeSet<u64>, numbers: &[u64]) -> Result<(), Memory>
+    ensures { OnOk result (set.new.keys ≡ add_numbers numbers.now set.old.keys) }
+{
+    for number in numbers {
+        set.insert(*number)?;
+    }
+    Ok(())
+}
+
+fn to_numbers(alloc: Global, set: &BTreeSet<u64>) -> Result<Numbers, Memory>
+    ensures { IfOk result (λ ns. ns ≡ set.now.keys) }
+{
+    let mut numbers = Numbers::new(alloc);
+    for number in set.iter() {
+        numbers.push(*number)?;
+    }
+    Ok(numbers)
 }
