@@ -37,7 +37,7 @@ use Rattle.run_model.proofs.Apart.{all-unmap, pairs-unmap}
 use Rattle.run_model.proofs.FitEvents.{find-last, found-left}
 use Rattle.run_model.proofs.FitRuns.{all-changed}
 use Rattle.run_model.proofs.Kept.{Adds, Ending, IsLive, Keeps, ending-both, kept-make_run, run_from, window_after, with_offer}
-use Rattle.run_model.proofs.KeptReplies.{Drops, dropping}
+use Rattle.run_model.proofs.KeptReplies.{Drops, adds-result, dropping}
 use Rattle.run_model.proofs.KeptSteps.{KeepsSteps, kept-step}
 use Rattle.run_model.proofs.Members.{all-map, in-all, in-found}
 use Rattle.run_model.proofs.Rising.{Rise, invocation_number, invoked, keeps-rise, rise-drops, rise-empty, rise-issue, rise-tidied, sleep_number, wait_number}
@@ -171,7 +171,7 @@ abbrev pends : Pending → List ℕ → Run → Run
 pends kind name r = with_steps (pend_step name kind r.steps) r
 
 -- what is new was neither recorded nor pending
-adds-new : (name : List ℕ) (kind : Pending) (r : Run) → Adds (note_pending name kind r.steps)
+pub adds-new : (name : List ℕ) (kind : Pending) (r : Run) → Adds (note_pending name kind r.steps)
     → (is_recorded name r.steps ≡ false) × (is_pending name r.steps ≡ false)
 adds-new name kind r h =
     by_tests (is_recorded name r.steps) (is_planned name r.steps) (is_pending name r.steps) refl refl h
@@ -669,7 +669,7 @@ is-given r s live rise = in-all (λ (q : Run). q.number ≤ s.runs) r s.live
     (in-found (λ (x : Run). r.number == x.number) s.live r live)
     (all-unmap (λ n. n ≤ s.runs) (λ (q : Run). q.number) s.live rise.1.0.1)
 
-new-result : (name : List ℕ) (r : Run) → is_new_result name r.steps ≡ true → is_pending name r.steps ≡ false
+pub new-result : (name : List ℕ) (r : Run) → is_new_result name r.steps ≡ true → is_pending name r.steps ≡ false
 new-result name r h = by_tests (is_recorded name r.steps) (is_pending name r.steps) refl h
   where
     by_tests : (a b : Bool) → is_pending name r.steps ≡ b → not (a || b) ≡ true → is_pending name r.steps ≡ false
@@ -713,7 +713,7 @@ keeps-awaits = record {
   results = λ r name result s live new h. (
     keeps-rise.results r name result s live new h.0,
     stand-result r.number name result s
-        (waits-live name r s live ∙ not-pending name r (new-result name r new)) h.1,
+        (waits-live name r s live ∙ not-pending name r (new-result name r (adds-result name result r new))) h.1,
   );
   sleep_ends = λ e s there h. (keeps-rise.sleep_ends e s there h.0, stand-sleep_ends e s there h.0 h.1);
   wait_ends = λ w result s there h.

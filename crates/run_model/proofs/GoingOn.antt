@@ -168,7 +168,7 @@ GoOn is s = AllByRecursion (GoesOn s.items s.issues is) s.live
 
 -- ## One run changes, and items stay
 
-all-changed_by : (P Q : Run → Type 0) (number : ℕ) (f : Run → Run) (live : List Run)
+pub all-changed_by : (P Q : Run → Type 0) (number : ℕ) (f : Run → Run) (live : List Run)
     → ((r : Run) → number ≡ r.number → P r → Q (f r)) → ((r : Run) → (number == r.number) ≡ false → P r → Q r)
     → AllByRecursion P live → AllByRecursion Q (changed number f live)
 all-changed_by P Q number f [] own other h = h
@@ -409,7 +409,7 @@ not-idle r s is e =
     by_tests false false true true ea eb ec ed k = by_want s.items s.issues is r ed
     by_tests false false true false ea eb ec ed k = absurd (cc)
 
-same-run : (number : ℕ) (r q : Run) (s : State) → Rise s → live_run number s ≡ Some r → IsIn q s.live
+pub same-run : (number : ℕ) (r q : Run) (s : State) → Rise s → live_run number s ≡ Some r → IsIn q s.live
     → q.number ≡ number → r ≡ q
 same-run number r q s rise live there same =
     same-one run_number r q s.live (in-found (λ (x : Run). number == x.number) s.live r live) there rise.1.0.0

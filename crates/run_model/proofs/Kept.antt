@@ -2,7 +2,7 @@
 -- changes. Each word of the definition keeps it: here those of making and of recording.
 use Rattle.std.proofs.Common.{◌≡◌, ℕ, ◌+◌, ◌≤◌, ◌==◌, Bool, true, false, not, ◌&&◌, cond, List, [], ◌∷◌, ◌++◌, filter, codes, Option, Some, None, IfSome, refl, sym, subst, arith, eq-eqb, eqb-true}
 use Rattle.std.specs.List.{AllByRecursion, list_any}
-use Rattle.kinds.specs.RunSteps.{Noting, adds, known, full, is_pending, note_pending, note_plan, pend_step}
+use Rattle.kinds.specs.RunSteps.{Noting, adds, known, full, is_pending, keep_step, note_pending, note_plan, pend_step}
 use Rattle.kinds.specs.Seen.{find_seen}
 use Rattle.kinds.specs.Windows as windows
 use Rattle.kinds.specs.Windows.{after_event, is_full}
@@ -23,7 +23,7 @@ use Rattle.run_model.specs.Events.{add_event, end_wait, event_with, has_wait, wi
 use Rattle.run_model.specs.Laws.{IsIn}
 use Rattle.run_model.specs.Making.{add_rule, add_rules, discover, discover_all, discover_one, first_of, has_discovery, make_run, queue_new, run_with, step_target, text_or_none}
 use Rattle.run_model.specs.Recording.{Discovery, at_once, at_the_end, change_run, discovered, is_pending_in, record_result, wake_step}
-use Rattle.run_model.specs.Replies.{add_invocation, add_sleep, add_wait, invoke_found, invoked_event, is_new_result, pend, plan_named, want, with_steps}
+use Rattle.run_model.specs.Replies.{add_invocation, add_sleep, add_wait, invoke_found, invoked_event, pend, plan_named, want, with_steps}
 use Rattle.run_model.specs.Requests.{remember}
 use Rattle.run_model.specs.State.{State, Run, Sleep, Waiting, Invocation, live_run, text_of}
 use Rattle.run_model.proofs.LiveRuns.{IsOf, of-changed, of-more}
@@ -155,8 +155,8 @@ pub record Keeps (P : State → Type 0) : Type 0 where
   -- a run ends
   pub ends : (r : Run) (status : RunStatus) (s : State) → IsLive r s → P s → Ending P r status s
   -- a step is recorded: one with a new result, and one that an end wakes
-  pub results : (r : Run) (name result : List ℕ) (s : State) → IsLive r s → is_new_result name r.steps ≡ true
-      → P s → P (record_result r.number name result s)
+  pub results : (r : Run) (name result : List ℕ) (s : State) → IsLive r s
+      → Adds (keep_step name result r.steps) → P s → P (record_result r.number name result s)
   pub sleep_ends : (e : Sleep) (s : State) → IsIn e s.sleeps → P s
       → P (wake_step e.run e.hash (codes "null") (without_sleep e.number s))
   pub wait_ends : (w : Waiting) (result : List ℕ) (s : State) → IsIn w s.waits → P s → P (end_wait result w s)

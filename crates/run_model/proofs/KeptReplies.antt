@@ -1,8 +1,8 @@
 -- What a reply to a call and a call that fails do keeps what each change keeps. The call's item is aside in the
 -- meantime.
-use Rattle.std.proofs.Common.{◌≡◌, ℕ, ◌==◌, Bool, true, false, not, cond, ◌||◌, List, [], ◌∷◌, map, codes, Option, Some, None, refl, nat_lt, bytes_eq}
+use Rattle.std.proofs.Common.{◌≡◌, ℕ, ◌==◌, Bool, true, false, not, cond, ◌||◌, List, [], ◌∷◌, map, codes, Option, Some, None, refl, nat_le, nat_lt, bytes_eq}
 use Rattle.kinds.specs.ErrorObject.{error_object}
-use Rattle.kinds.specs.RunSteps.{Noting, adds, known, full, is_pending, is_planned, is_recorded, keep_step, note_pending, note_plan, pend_step, record_step, with_room}
+use Rattle.kinds.specs.RunSteps.{Noting, adds, known, full, is_pending, is_planned, is_recorded, keep_step, most_names, names, note_pending, note_plan, pend_step, record_step, with_room}
 use Rattle.kinds.specs.declared.reply.After.{After}
 use Rattle.kinds.specs.declared.reply.After.TheVariants as after
 use Rattle.kinds.specs.declared.reply.Op.{Op}
@@ -87,7 +87,7 @@ is_current id f = bytes_eq id f.function.id
 
 -- ## Names that are new
 
-adds-result : (name result : List ℕ) (r : Run) → Adds (keep_step name result r.steps)
+pub adds-result : (name result : List ℕ) (r : Run) → Adds (keep_step name result r.steps)
     → is_new_result name r.steps ≡ true
 adds-result name result r h = by_test (is_recorded name r.steps || is_pending name r.steps) h
   where
@@ -97,18 +97,22 @@ adds-result name result r h = by_test (is_recorded name r.steps || is_pending na
     by_test true k = absurd k
     by_test false k = refl
 
-adds-pending : (name : List ℕ) (kind : Pending) (r : Run) → Adds (note_pending name kind r.steps)
-    → is_new_result name r.steps ≡ true
-adds-pending name kind r h =
-    by_tests (is_recorded name r.steps) (is_planned name r.steps) (is_pending name r.steps) h
+-- a name that may be pending may have a result
+pending-result : (name result : List ℕ) (kind : Pending) (r : Run) → Adds (note_pending name kind r.steps)
+    → Adds (keep_step name result r.steps)
+pending-result name result kind r h =
+    by_tests (is_recorded name r.steps) (is_planned name r.steps) (is_pending name r.steps)
+    (nat_le most_names (names r.steps)) h
   where
-    by_tests : (a b c : Bool)
-        → Adds (cond (a || b || c) known (with_room (pend_step name kind r.steps) r.steps))
-        → not (a || c) ≡ true
-    by_tests true b c k = absurd k
-    by_tests false true c k = absurd k
-    by_tests false false true k = absurd k
-    by_tests false false false k = refl
+    by_tests : (a b c full_up : Bool)
+        → Adds (cond (a || b || c) known (cond full_up full (adds (pend_step name kind r.steps))))
+        → Adds (cond (a || c) known (cond b (adds (record_step name result r.steps))
+        (cond full_up full (adds (record_step name result r.steps)))))
+    by_tests true b c d k = absurd k
+    by_tests false true c d k = absurd k
+    by_tests false false true d k = absurd k
+    by_tests false false false true k = absurd k
+    by_tests false false false false k = tt
 
 -- ## Operations
 
@@ -124,7 +128,7 @@ module _ (P : State → Type 0) (keeps : Keeps P) where
       → P (keep r name result t).state
   kept-keep r name result t live h =
       kept-noted (keep_step name result r.steps) r (record_result r.number name result) t live
-      (λ new. keeps.results r name result t.state live (adds-result name result r new) h) h
+      (λ new. keeps.results r name result t.state live new h) h
 
   pub kept-on_error : (b : Bool) (r : Run) (name error : List ℕ) (t : Taking) → IsLive r t.state → P t.state
       → P (on_error b r name error t).state
@@ -135,7 +139,8 @@ module _ (P : State → Type 0) (keeps : Keeps P) where
       (payload : Option (List ℕ)) (t : Option Time) (s : State) → current id s ≡ found → IsLive r s
       → Adds (note_pending name pending.Invocation r.steps) → P s → P (invoke_found found r name payload t s)
   kept-invoke_found None id r name payload t s e live new h =
-      keeps.results r name unknown_function s live (adds-pending name pending.Invocation r new) h
+      keeps.results r name unknown_function s live
+      (pending-result name unknown_function pending.Invocation r new) h
   kept-invoke_found (Some f) id r name payload t s e live new h =
       keeps.invokes f r name payload t s
       (in-front f s.functions s.retired (in-found (is_current id) s.functions f e)) live new h

@@ -28,7 +28,7 @@ use Rattle.run_model.specs.Sound.{RiseTo}
 use Rattle.run_model.specs.State.{State, Run, Issue, EventText, Sleep, Waiting, Invocation, empty, is_named, tidied, without_closed}
 use Rattle.run_model.proofs.Apart.{all-unmap, pairs-last, pairs-map, pairs-unmap}
 use Rattle.run_model.proofs.FitWindows.{pairs-filter}
-use Rattle.run_model.proofs.Kept.{Keeps, freely, run_from, started, window_after, with_offer}
+use Rattle.run_model.proofs.Kept.{Goes, Keeps, freely, run_from, started, window_after, with_offer}
 use Rattle.run_model.proofs.KeptReplies.{Drops}
 use Rattle.run_model.proofs.Limits.{map-last}
 use Rattle.run_model.proofs.Members.{all-map}
@@ -280,6 +280,16 @@ rise-ended r status s h = (
   (rise-filter run_number s.runs (λ (other : Run). not (r.number == other.number)) s.live h.1.0, h.1.1),
 )
 
+pub rise-goes : Goes Rise
+rise-goes = record {
+  records = λ run name result s h. rise-changed run (record_in name result) s (λ q. refl) h;
+  sleeps_go = λ test s h. (fewer-sleeps s.entries s.sleeps s.waits s.invocations s.rules h.0 test, h.1);
+  waits_go = λ test s h. (fewer-waits s.entries s.sleeps s.waits s.invocations s.rules h.0 test, h.1);
+  invocations_go = λ test s h.
+      (fewer-invocations s.entries s.sleeps s.waits s.invocations s.rules h.0 test, h.1);
+  rules_go = λ test s h. (fewer-rules s.entries s.sleeps s.waits s.invocations s.rules h.0 test, h.1);
+}
+
 pub keeps-rise : Keeps Rise
 keeps-rise = freely Rise (record {
   accepts = λ event id s new h. rise-accepted event id s h;
@@ -301,14 +311,7 @@ keeps-rise = freely Rise (record {
   pends = λ r name s live new h. rise-pended pending.Invocation name r s h;
   invokes = λ r name child t s there h. rise-invocation r name child t s h;
   ends = λ r status s live h. rise-ended r status s h;
-}) (record {
-  records = λ run name result s h. rise-changed run (record_in name result) s (λ q. refl) h;
-  sleeps_go = λ test s h. (fewer-sleeps s.entries s.sleeps s.waits s.invocations s.rules h.0 test, h.1);
-  waits_go = λ test s h. (fewer-waits s.entries s.sleeps s.waits s.invocations s.rules h.0 test, h.1);
-  invocations_go = λ test s h.
-      (fewer-invocations s.entries s.sleeps s.waits s.invocations s.rules h.0 test, h.1);
-  rules_go = λ test s h. (fewer-rules s.entries s.sleeps s.waits s.invocations s.rules h.0 test, h.1);
-})
+}) rise-goes
 
 -- ## Calls
 

@@ -1,12 +1,13 @@
 // Which calls are made: within limits, and for no step that is recorded.
+ghost use Rattle.kinds.specs.RunSteps.{most_names, names};
 ghost use Rattle.kinds.specs.declared.input.Input.{Input};
 ghost use Rattle.kinds.specs.declared.limits.Limits.{Limits};
 ghost use Rattle.run_model.specs.Machine.{fold, step};
 ghost use Rattle.run_model.specs.Settled.{AreItemsNew, CallsNew};
-ghost use Rattle.run_model.specs.Sound.{KeepLimits};
-ghost use Rattle.run_model.specs.State.{State, issue_entries};
+ghost use Rattle.run_model.specs.Sound.{KeepLimits, RecordsOnce, all_runs};
+ghost use Rattle.run_model.specs.State.{State, Run, issue_entries};
 ghost use Rattle.std.specs.List.{AllByRecursion};
-ghost use Rattle.std.specs.Prelude.{List, []};
+ghost use Rattle.std.specs.Prelude.{List, [], ◌≤◌};
 
 /// In each state that is reached, for each open call and each of its cells, no more calls that were made up to it are
 /// open in the cell than the call's limit there.
@@ -24,4 +25,15 @@ pub fn recorded_steps_are_not_called()
     ensures { (limits : Limits) (inputs : List Input) (input : Input) →
         AllByRecursion (CallsNew (step (fold limits inputs) input).state)
         (step (fold limits inputs) input).outs }
+{}
+
+/// In each state that is reached, no name of a run that has not ended is recorded twice, and none that is recorded waits.
+pub fn steps_are_recorded_once()
+    ensures { (limits : Limits) (inputs : List Input) → AllByRecursion RecordsOnce (fold limits inputs).live }
+{}
+
+/// Nor has a run that is there more names than a thousand.
+pub fn runs_have_room_for_names()
+    ensures { (limits : Limits) (inputs : List Input) →
+        AllByRecursion (λ (r : Run). names r.steps ≤ most_names) (all_runs (fold limits inputs)) }
 {}

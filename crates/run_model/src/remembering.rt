@@ -6,8 +6,8 @@ ghost use Rattle.run_model.specs.Machine.{fold};
 ghost use Rattle.run_model.specs.Sound.{RemembersOnce};
 ghost use Rattle.std.specs.Prelude.{List, ◌≤◌};
 
-/// No two remembered ids are equal. They stand by number, and each is of an event that was numbered, not after the moment,
-/// and tells a repeated event still.
+/// No two remembered ids are equal. They stand by number, and each is of an event that was numbered, not after the
+/// moment, and tells a repeated event still.
 pub fn ids_are_remembered_once()
     ensures { (limits : Limits) (inputs : List Input) → RemembersOnce (fold limits inputs) }
 {}
