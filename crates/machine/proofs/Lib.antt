@@ -5,11 +5,16 @@ pub mod Found
 pub mod HeldEvents
 pub mod HeldFunctions
 pub mod HeldMaking
+pub mod HeldOffers
 pub mod HeldRecording
+pub mod HeldRequests
 pub mod HeldSettle
 pub mod HeldWords
 pub mod Joined
+pub mod Matched
 pub mod NextHeld
+pub mod Staying
 pub mod VersionLemmas
 pub mod VersionSearch
 pub mod ViewLemmas
+pub mod WindowsAfter

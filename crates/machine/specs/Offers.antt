@@ -6,7 +6,8 @@ use Rattle.event_keys.specs.Expressions.{holds_over, key_value}
 use Rattle.functions.specs.declared.entry.FunctionEntry.{FunctionEntry}
 use Rattle.awaited.specs.Named.{placed_as}
 use Rattle.awaited.specs.declared.placed.Placed.{Placed}
-use Rattle.kinds.specs.Windows.{after_event}
+use Rattle.awaited.specs.declared.placed.Placed.TheVariants as placed
+use Rattle.kinds.specs.Windows.{after_event, events_of}
 use Rattle.kinds.specs.declared.event.Event.{Event}
 use Rattle.kinds.specs.declared.function.Trigger.{Trigger}
 use Rattle.kinds.specs.declared.window.Window.{Window}
@@ -46,9 +47,9 @@ abbrev pub IsOfferAt : Option FunctionEntry → Event → Offer → Type 0
 IsOfferAt None event o = o ≡ offer.Nothing
 IsOfferAt (Some f) event o = IsOffer f event o
 
--- the rule is the function's own
+-- the function is there, and the rule is its own
 abbrev pub IsRuleOf : Option FunctionEntry → WindowRule → Type 0
-IsRuleOf None r = Unit {0}
+IsRuleOf None r = ⊥
 IsRuleOf (Some f) r = Some r ≡ option_map without_key (window_rule_of f.function)
 
 abbrev pub IsOfferRight : State → Offer → Type 0
@@ -62,6 +63,17 @@ gather_at None r value event s = s
 gather_at (Some f) r value event s =
     in_window f r (window_of f.version value s)
     (after_event r f.version value event s.moment (s.entries + 1) (window_of f.version value s)) s
+
+-- the events of a window, where there is one
+abbrev pub events_in : Option Window → List ℕ
+events_in None = []
+events_in (Some w) = events_of w
+
+-- a window that is opened takes the next number
+abbrev pub last_entry : Placed → ℕ → ℕ → ℕ
+last_entry placed.Opened before number = number
+last_entry placed.Joined before number = before
+last_entry (placed.Full events was_open) before number = before
 
 -- the window of a version and a value after an event
 abbrev pub after_join : ℕ → WindowRule → List ℕ → ℕ → State → Window

@@ -2,6 +2,7 @@
 use Rattle.std.specs.Prelude.{ℕ, ◌∷◌, ◌+◌, ◌&&◌, ◌++◌, not, Bool, true, false, List, [], map, filter, Option, Some, None}
 use Rattle.event_texts.specs.Texts.{text_or_none}
 use Rattle.functions.specs.declared.entry.FunctionEntry.{FunctionEntry}
+use Rattle.kinds.specs.Seen.{note_seen}
 use Rattle.kinds.specs.declared.event.Event.{Event}
 use Rattle.kinds.specs.declared.event.EventIn.{EventIn}
 use Rattle.kinds.specs.declared.out.Out.{Out}
@@ -100,6 +101,12 @@ answering s = record { state = s; numbers = [] }
 abbrev pub given_number : Option ℕ → ℕ → ℕ
 given_number (Some number) next = number
 given_number None next = next
+
+-- the id of the event of a number, where it has one, is remembered
+abbrev pub note_id : Option (List ℕ) → ℕ → State → State
+note_id None number s = s
+note_id (Some id) number s =
+    record s { seen = note_seen (record { id = id; number = number; moment = s.moment }) s.seen }
 
 -- what an event is answered with
 abbrev pub number_for : EventIn → State → ℕ

@@ -1,17 +1,20 @@
 // What an event does, once it is accepted: it wakes waits, and starts runs or joins windows.
-ghost use Rattle.std.specs.Prelude.{◌≡◌, ◌+◌, ◌≤◌, [], map, IfOk, OnOk};
+ghost use Rattle.std.specs.Prelude.{◌≡◌, ◌+◌, ◌≤◌, [], find, map, IfOk, OnOk};
+ghost use Rattle.std.specs.Option.{option_map};
+ghost use Rattle.awaited.specs.Entries.{wait_step};
 ghost use Rattle.event_texts.specs.Texts.{text_at, text_or_none};
 ghost use Rattle.kinds.specs.Stores.{cancelled, woken};
 ghost use Rattle.machine.specs.Held.{Becomes, IsHeld};
 ghost use Rattle.machine.specs.View.{state_of};
 ghost use Rattle.machine.specs.Words.{event_at, when_of};
-ghost use Rattle.run_model.specs.Events.{add_event, event_with, follow, wait_of, wake, wake_by};
+ghost use Rattle.run_model.specs.Events.{add_event, event_with, follow, has_wait, wait_of, wake, wake_by, without_wait};
 ghost use Rattle.run_model.specs.Expressions.{truth_in};
 ghost use Rattle.run_model.specs.Recording.{data_result};
 
 use crate::Parts;
 use crate::recording::Discovery;
 use crate::results::data_result;
+use awaited::WaitStep;
 use event_keys::{FreshMatcher, ReadEvent};
 use intake::event_text;
 use kinds::{Event, EventIn, Numbers, Steps};
@@ -61,6 +64,7 @@ impl Parts {
         steps: &mut Steps<L>,
     ) -> Result<(), Memory>
         requires held { IsHeld self.old }
+        requires given { number ≤ self.old.counts.events }
         ensures { OnOk result (Becomes
             (wake_by (when_of discovery) (event_at number name.now (state_of self.old)) (state_of self.old))
             self.old self.new) }
@@ -130,11 +134,20 @@ impl Parts {
             (wake (when_of discovery) (data_result (text_or_none (text_at event self.old.texts.texts)))
             wait (state_of self.old)) self.old self.new) }
     {
-        let Some(waiting) = self.waits.remove(wait) else {
+        let result = data_result(self.alloc, self.texts.text_or_none(event))?;
+        let Some(waiting) = self.take_wait(wait) else {
             return Ok(());
         };
-        let result = data_result(self.alloc, self.texts.text_or_none(event))?;
         self.wake(waiting.run, &waiting.hash, result)?;
         self.discovered(discovery)
+    }
+
+    /// A wait is over. Its step is the answer.
+    pub(crate) fn take_wait(&mut self, number: u64) -> Option<WaitStep>
+        requires held { IsHeld self.old }
+        ensures step { result ≡ option_map wait_step (find (has_wait number) self.old.waits) }
+        ensures now { Becomes (without_wait number (state_of self.old)) self.old self.new }
+    {
+        self.waits.remove(number)
     }
 }

@@ -4,7 +4,8 @@ ghost use Rattle.std.specs.List.{list_any, slice_get};
 ghost use Rattle.std.specs.Option.{option_and_then, option_copied, option_map};
 ghost use Rattle.event_keys.specs.Expressions.{holds_over};
 ghost use Rattle.machine.specs.Held.{Becomes, IsHeld};
-ghost use Rattle.machine.specs.Offers.{IsOffer, IsOfferAt, IsOfferRight, IsRuleOf, gather_at, is_trigger, joined_at, placed_at, take_offer, value_by, without_key};
+ghost use Rattle.machine.specs.Offers.{IsOffer, IsOfferAt, IsOfferRight, IsRuleOf, events_in, gather_at, is_trigger, joined_at, last_entry, placed_at, take_offer, value_by, without_key};
+ghost use Rattle.machine.specs.Numbers.{AreJoined};
 ghost use Rattle.machine.specs.View.{state_of};
 ghost use Rattle.machine.specs.Words.{event_at};
 ghost use Rattle.run_model.specs.Events.{key_of, offer_to_all, window_rule_of};
@@ -12,11 +13,12 @@ ghost use Rattle.run_model.specs.State.{function_at};
 
 use crate::Parts;
 use crate::making::later;
+use crate::numbers::NumberSet;
 use awaited::Placed;
 use event_keys::ReadEvent;
 use expr::Expr;
 use functions::FunctionEntry;
-use kinds::{Batch, Debounce, Function, Numbers, Window, WindowRule};
+use kinds::{Batch, Debounce, Function, Numbers, Trigger, Window, WindowRule};
 use lists::{Bytes, Memory};
 use std::alloc::Global;
 
@@ -119,10 +121,11 @@ impl Parts {
             (gather_at (function_at version (state_of self.old)) rule.now value event (state_of self.old))
             self.old self.new) }
     {
-        match self.join(version, rule, value, event)? {
-            Placed::Opened | Placed::Joined => Ok(()),
-            Placed::Full { events, .. } => self.make_run(version, events, None),
-        }
+        let placed = self.join(version, rule, value, event)?;
+        let Placed::Full { events, .. } = placed else {
+            return Ok(());
+        };
+        self.make_run(version, events, None)
     }
 
     // The window, where it stays, takes the event, and the next number where it is opened.
@@ -143,18 +146,33 @@ impl Parts {
         let key = (version, value);
         self.loose.versions.insert(version)?;
         self.loose.events.insert(event)?;
-        match self.windows.find(&key) {
-            Some(Window::Debounce { event: last, .. }) => self.loose.events.insert(*last)?,
-            Some(Window::Batch { events, .. }) => self.loose.events.insert_all(events.as_slice())?,
-            None => {}
-        }
+        touch_events(&mut self.loose.events, self.windows.find(&key))?;
         let placed = self
             .windows
-            .offer(key.0, rule, &key.1, event, self.moment, number)?;
-        if let Placed::Opened = placed {
-            self.counts.entries = number;
-        }
+            .offer(version, rule, &key.1, event, self.moment, number)?;
+        self.counts.entries = last_entry(&placed, self.counts.entries, number);
         Ok(placed)
+    }
+}
+
+// The events of a window are touched, where there is one.
+fn touch_events(touched: &mut NumberSet, window: Option<&Window>) -> Result<(), Memory>
+    ensures { OnOk result (AreJoined (events_in (option_copied window.entry)) touched.old touched.new) }
+{
+    match window {
+        Some(Window::Debounce { event, .. }) => touched.insert(*event),
+        Some(Window::Batch { events, .. }) => touched.insert_all(events.as_slice()),
+        None => Ok(()),
+    }
+}
+
+// The last number that was given: a window that is opened takes the next.
+fn last_entry(placed: &Placed, before: u64, number: u64) -> u64
+    ensures { result ≡ last_entry placed.now before number }
+{
+    match placed {
+        Placed::Opened => number,
+        Placed::Joined | Placed::Full { .. } => before,
     }
 }
 
@@ -168,11 +186,26 @@ fn is_triggered(
     ensures { IfOk result (λ b. b ≡ list_any (is_trigger name.now text.now) function.now.triggers) }
 {
     for trigger in function.triggers.as_slice() {
-        if trigger.event == *name && holds(alloc, trigger.cond.as_ref(), text)? {
+        if is_triggered_by(alloc, trigger, name, text)? {
             return Ok(true);
         }
     }
     Ok(false)
+}
+
+fn is_triggered_by(
+    alloc: Global,
+    trigger: &Trigger,
+    name: &Bytes,
+    text: &[u8],
+) -> Result<bool, Memory>
+    ensures { IfOk result (λ b. b ≡ is_trigger name.now text.now trigger.now) }
+{
+    if trigger.event == *name {
+        holds(alloc, trigger.cond.as_ref(), text)
+    } else {
+        Ok(false)
+    }
 }
 
 // An absent condition is true, and the text isn't read for it.

@@ -1,10 +1,11 @@
 // What the events of a request do.
-ghost use Rattle.std.specs.Prelude.{◌≡◌, ◌+◌, None, IfOk, OnOk};
+ghost use Rattle.std.specs.Prelude.{◌≡◌, ◌+◌, ◌≤◌, find, None, IfOk, OnOk};
+ghost use Rattle.intake.specs.Number.{has_number};
 ghost use Rattle.machine.specs.Held.{Becomes, IsHeld};
 ghost use Rattle.machine.specs.View.{state_of};
-ghost use Rattle.machine.specs.Words.{answering, event_at, number_for};
+ghost use Rattle.machine.specs.Words.{answering, event_at, note_id, number_for};
 ghost use Rattle.run_model.specs.Events.{event_with};
-ghost use Rattle.run_model.specs.Requests.{accept, cancel_by, on_event, on_events, remember, repeats};
+ghost use Rattle.run_model.specs.Requests.{accept, cancel_by, on_event, on_events, repeats};
 
 use crate::Parts;
 use crate::recording::Discovery;
@@ -61,22 +62,22 @@ impl Parts {
             (accept (event_with event.now (state_of self.old)) event.now.id (state_of self.old))
             self.old self.new) }
     {
-        self.remember(event)?;
         let number = self.add_event(event)?;
+        self.remember(event, number)?;
         self.cancel_by(number, &event.name, steps)?;
         self.follow(number, &event.name, Discovery::AtOnce, steps)?;
         Ok(number)
     }
 
-    // The id of the event that is made next, where it has one, is remembered.
-    fn remember(&mut self, event: &EventIn) -> Result<(), Memory>
+    // The id of the event of a number, where it has one, is remembered.
+    fn remember(&mut self, event: &EventIn, number: u64) -> Result<(), Memory>
         requires held { IsHeld self.old }
+        requires given { number ≤ self.old.counts.events }
         requires new { repeats event.now (state_of self.old) ≡ None }
-        ensures { OnOk result (Becomes (remember event.now.id (state_of self.old)) self.old self.new) }
+        requires fresh { find (has_number number) self.old.seen ≡ None }
+        ensures { OnOk result
+            (Becomes (note_id event.now.id number (state_of self.old)) self.old self.new) }
     {
-        let Some(number) = self.counts.events.checked_add(1) else {
-            return Err(Memory);
-        };
         match &event.id {
             Some(id) => self.seen.note(id.as_slice(), number, self.moment),
             None => Ok(()),
