@@ -4,6 +4,7 @@ use Rattle.std.specs.List.{AllByRecursion}
 use Rattle.std.specs.List.Sorted.{IsStrictlySortedBy}
 use Rattle.std.specs.Ordering.{nat_cmp}
 use Rattle.kinds.specs.Moments.{last_moment}
+use Rattle.kinds.specs.declared.limits.Limits.{Limits}
 use Rattle.runs.proofs.Numbers.{rises_none}
 use Rattle.runs.specs.Runs.{run_number}
 use Rattle.run_model.specs.Fit.{HasOwnNumbers, IsFit}
@@ -20,12 +21,12 @@ use Rattle.machine.specs.declared.parts.Parts.{Parts}
 all-none : {X : Type 0} (P : X → Type 0) (xs : List X) → xs ≡ [] → AllByRecursion P xs
 all-none P xs none = subst (AllByRecursion P) (sym none) tt
 
-held-empty : (m : Parts) → state_of m ≡ empty m.limits → m.admission.moment ≡ 0 → IsHeld m
-held-empty m e start =
+held-empty : (m : Parts) (limits : Limits) → state_of m ≡ empty limits → m.admission.moment ≡ 0 → IsHeld m
+held-empty m limits e start =
     let live : m.runs.live ≡ [] = ap (λ (s : State). s.live) e in
     let closing : m.runs.closing ≡ [] = ap (λ (s : State). s.closing) e in
     record {
-      fit = subst IsFit (sym e) (fit-empty m.limits);
+      fit = subst IsFit (sym e) (fit-empty limits);
       wants = record {
         ordered = subst (λ (rs : List Run). IsStrictlySortedBy nat_cmp (map run_number rs)) (sym live) rises_none;
         noted = all-none _ m.runs.live live;
@@ -45,11 +46,11 @@ held-empty m e start =
       clock = subst (λ n. n ≤ last_moment) (sym start) (omega arith);
     }
 
-pub ready-empty : (m : Parts) → state_of m ≡ empty m.limits → m.admission.moment ≡ 0 → m.loose ≡ nothing
-    → IsReady m
-ready-empty m e start none = record {
+pub ready-empty : (m : Parts) (limits : Limits) → state_of m ≡ empty limits → m.admission.moment ≡ 0
+    → m.loose ≡ nothing → IsReady m
+ready-empty m limits e start none = record {
   rest = record {
-    held = held-empty m e start;
+    held = held-empty m limits e start;
     loose = (
       ap (λ (l : Loose). l.runs) none,
       ap (λ (l : Loose). l.events) none,
@@ -57,5 +58,5 @@ ready-empty m e start none = record {
     );
     now = start ∙ sym (ap (λ (s : State). s.moment) e);
   };
-  apart = subst HasOwnNumbers (sym e) (apart-fold m.limits []);
+  apart = subst HasOwnNumbers (sym e) (apart-fold limits []);
 }

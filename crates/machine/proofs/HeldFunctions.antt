@@ -43,8 +43,8 @@ module _ (m : Parts) (app : App) (touched : List ℕ)
   right-after f (inl went) = λ left.
       let there : IsIn f m.versions.current = in-filter (λ f. not (stays app f)) f m.versions.current went in
       let clash : true ≡ false =
-          sym (in-all (λ n. has_number touched n ≡ true) f.version (map version_of m.versions.current)
-          (in-map f m.versions.current there) joined.there) ∙ left in
+      sym (in-all (λ n. has_number touched n ≡ true) f.version (map version_of m.versions.current)
+      (in-map f m.versions.current there) joined.there) ∙ left in
       absurd (cc)
   right-after f (inr before) = λ left.
       in-all (λ (f : FunctionEntry). has_number m.loose.versions f.version ≡ false

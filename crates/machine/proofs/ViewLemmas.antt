@@ -1,10 +1,20 @@
--- The runs of an event by number, and what is found of an input that may be turned away.
-use Rattle.std.proofs.Common.{◌≡◌, ℕ, ◌==◌, Bool, true, false, cond, ◌||◌, List, [], ◌∷◌, ◌++◌, find, Option, Some, None, is_some, refl, sym, ap, ◌∙◌}
+-- The next moment, the runs of an event by number, and a cancellation that is turned away.
+use Rattle.std.proofs.Common.{◌≡◌, ℕ, ◌==◌, Bool, cond, ◌||◌, List, [], ◌∷◌, ◌++◌, Option, Some, None, refl, sym, ap, ◌∙◌, subst}
 use Rattle.std.specs.List.{list_any}
 use Rattle.std.proofs.lemmas.List.Folds.{list_any-append}
 use Rattle.lists.specs.Entries.{add_number, add_numbers, in_order}
-use Rattle.runs.specs.Runs.{is_in}
+use Rattle.admission.specs.Admission.{issue_entries}
+use Rattle.kinds.specs.Queue.{next_item, sooner}
+use Rattle.kinds.specs.declared.refusal.Refusal.TheVariants.{RunEnded, UnknownRun}
+use Rattle.runs.specs.Ended.{is_ended, last_ended}
+use Rattle.runs.specs.Runs.{is_in, run_at}
 use Rattle.runs.proofs.Numbers.{in_in_order, rises_in_order, same_numbers}
+use Rattle.run_model.specs.Advance.{least, timed}
+use Rattle.run_model.specs.Machine.{refusal_of_cancel}
+use Rattle.run_model.specs.Next.{due_next, next_moment}
+use Rattle.run_model.specs.State.{State, live_run}
+use Rattle.machine.specs.View.{state_of}
+use Rattle.machine.specs.declared.parts.Parts.{Parts}
 
 -- ## Numbers in order
 
@@ -24,19 +34,37 @@ order-again ms ns =
     (rises_in_order (ms ++ ns))
     (λ q. in_in_order q (ms ++ in_order ns) ∙ in-either q ms ns ∙ sym (in_in_order q (ms ++ ns)))
 
-pub runs-in-order : (ms ns live ended set both all : List ℕ) → live ≡ ms → ended ≡ in_order ns
-    → set ≡ add_numbers live [] → both ≡ add_numbers ended set → all ≡ both → all ≡ in_order (ms ++ ns)
-runs-in-order ms ns live ended set both all a b c d e =
-    e ∙ d ∙ ap (λ s. add_numbers ended s) (c ∙ ap (λ l. add_numbers l []) a)
+pub added-next : (ns more : List ℕ) (n : ℕ) (start old new : List ℕ) → more ≡ ns ++ n ∷ []
+    → old ≡ add_numbers ns start → new ≡ add_number n old → new ≡ add_numbers more start
+added-next ns more n start old new a b c =
+    c ∙ ap (add_number n) b ∙ add-append ns (n ∷ []) start ∙ ap (λ l. add_numbers l start) (sym a)
+
+pub runs-in-order : (ms ns live ended none set both : List ℕ) → live ≡ ms → ended ≡ in_order ns → none ≡ []
+    → set ≡ add_numbers live none → both ≡ add_numbers ended set → both ≡ in_order (ms ++ ns)
+runs-in-order ms ns live ended none set both a b c d e =
+    e ∙ ap (λ s. add_numbers ended s) (d ∙ ap (λ l. add_numbers l none) a ∙ ap (λ l. add_numbers ms l) c)
     ∙ ap (λ l. add_numbers l (add_numbers ms [])) b ∙ add-append ms (in_order ns) [] ∙ order-again ms ns
 
--- ## Whether there is one
+-- ## The next moment
 
-pub any-some : {X : Type 0} (p : X → Bool) (xs : List X) → list_any p xs ≡ is_some (find p xs)
-any-some p [] = refl
-any-some p (x ∷ xs) = by_test (p x) (any-some p xs)
-  where
-    by_test : (b : Bool) → list_any p xs ≡ is_some (find p xs)
-        → (b || list_any p xs) ≡ is_some (cond b (Some x) (find p xs))
-    by_test true more = refl
-    by_test false more = more
+pub next-of-parts : (m : Parts) (s : State) (next due item : Option ℕ) → state_of m ≡ s
+    → m.admission.moment ≡ m.moment → next ≡ sooner due item → due ≡ due_next (least (timed (state_of m)))
+    → item ≡ next_item (issue_entries m.admission) m.admission.starts m.admission.moment m.admission.items
+    → next ≡ next_moment s
+unfolding next_moment
+next-of-parts m s next due item e now a b c =
+    a ∙ ap (λ d. sooner d item) b
+    ∙ ap (λ i. sooner (due_next (least (timed (state_of m)))) i)
+    (c ∙ ap (λ t. next_item (issue_entries m.admission) m.admission.starts t m.admission.items) now)
+    ∙ ap next_moment e
+
+-- ## A run that can't be cancelled
+
+pub refused-cancel : (m : Parts) (s : State) (run : ℕ) (b : Bool) → state_of m ≡ s → None ≡ run_at run m.runs.live
+    → b ≡ list_any (is_ended run) (last_ended m.ended)
+    → refusal_of_cancel run (live_run run s) s ≡ cond b (Some (RunEnded run)) (Some (UnknownRun run))
+refused-cancel m s run b e none told =
+    subst (λ (t : State). refusal_of_cancel run (live_run run t) t
+    ≡ cond b (Some (RunEnded run)) (Some (UnknownRun run))) e
+    (subst (λ found. refusal_of_cancel run found (state_of m) ≡ cond b (Some (RunEnded run)) (Some (UnknownRun run)))
+    none (ap (λ c. cond c (Some (RunEnded run)) (Some (UnknownRun run))) (sym told)))

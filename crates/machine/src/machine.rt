@@ -1,6 +1,7 @@
 ghost use Rattle.std.specs.Prelude.{◌≡◌, IfOk, MatchResult, None, Some};
 ghost use Rattle.run_model.specs.Machine.{refusal, refusal_of_call, refusal_of_cancel, refusal_of_events, refusal_of_registration};
 ghost use Rattle.run_model.specs.State.{empty, greatest, kept, live, live_run, open_issue};
+ghost use Rattle.machine.specs.Numbers.{nothing};
 ghost use Rattle.machine.specs.View.{state_of};
 
 use crate::Parts;
@@ -48,25 +49,7 @@ impl Machine {
         ensures { IfOk result (λ m. m ≡ empty limits) }
     {
         Ok(Machine {
-            parts: Parts {
-                alloc,
-                limits,
-                moment: 0,
-                counts: Counts::empty(),
-                versions: Versions::empty(alloc),
-                seen: Seen::empty(alloc),
-                texts: Texts::empty(alloc),
-                runs: Runs::empty(alloc),
-                ended: EndedRuns::empty(alloc),
-                admission: Admission::empty(alloc),
-                sleeps: Sleeps::empty(alloc),
-                waits: Waits::empty(alloc),
-                invocations: Invocations::empty(alloc),
-                rules: Rules::empty(alloc),
-                windows: WindowSet::empty(alloc),
-                wanting: NumberSet::empty(alloc),
-                loose: Loose::empty(alloc),
-            },
+            parts: Parts::empty(alloc, limits),
         })
     }
 
@@ -187,6 +170,35 @@ impl Machine {
             Some(_) => Ok(()),
             None if self.parts.ended.is_last(run) => Err(Refusal::RunEnded { run }),
             None => Err(Refusal::UnknownRun { run }),
+        }
+    }
+}
+
+impl Parts {
+    // Nothing has happened.
+    fn empty(alloc: Global, limits: Limits) -> Self
+        ensures state { state_of result ≡ empty limits }
+        ensures clock { result.admission.moment ≡ 0 }
+        ensures loose { result.loose ≡ nothing }
+    {
+        Parts {
+            alloc,
+            limits,
+            moment: 0,
+            counts: Counts::empty(),
+            versions: Versions::empty(alloc),
+            seen: Seen::empty(alloc),
+            texts: Texts::empty(alloc),
+            runs: Runs::empty(alloc),
+            ended: EndedRuns::empty(alloc),
+            admission: Admission::empty(alloc),
+            sleeps: Sleeps::empty(alloc),
+            waits: Waits::empty(alloc),
+            invocations: Invocations::empty(alloc),
+            rules: Rules::empty(alloc),
+            windows: WindowSet::empty(alloc),
+            wanting: NumberSet::empty(alloc),
+            loose: Loose::empty(alloc),
         }
     }
 }
