@@ -1,5 +1,5 @@
 -- What a reply does, of a run that may not be there.
-use Rattle.std.specs.Prelude.{ℕ, ◌&&◌, Bool, true, false, not, List, Option, Some, None, bytes_eq, nat_lt}
+use Rattle.std.specs.Prelude.{ℕ, ⊤, ◌<◌, ◌&&◌, Bool, true, false, not, List, Option, Some, None, bytes_eq, nat_lt}
 use Rattle.std.specs.List.{list_any}
 use Rattle.kinds.specs.RunSteps.{is_recorded}
 use Rattle.kinds.specs.declared.reply.After.{After}
@@ -27,6 +27,11 @@ next_by false false = Fail
 abbrev pub next_of : Option Run → Item → State → Next
 next_of None i s = Nothing
 next_of (Some r) i s = next_by (is_recorded i.target r.steps) (nat_lt i.attempt (retries_of r s))
+
+-- there is an attempt more
+abbrev pub HasRoom : Next → ℕ → Type 0
+HasRoom Again attempt = attempt < 255
+HasRoom _ attempt = ⊤
 
 abbrev pub ops_at : Option Run → Item → List Op → Bool → After → State → State
 ops_at None i ops no_retry after s = s

@@ -2,14 +2,14 @@
 ghost use Rattle.std.specs.Prelude.{◌≡◌, nat_le, IfOk, OnOk};
 ghost use Rattle.kinds.specs.declared.store.Pending.TheVariants as pending;
 ghost use Rattle.machine.specs.Held.{Becomes, IsHeld};
-ghost use Rattle.machine.specs.Operations.{error_taken, first_at, new_wait, plan_at, sleep_at, taken_of, too_many_steps, wait_at};
+ghost use Rattle.machine.specs.Operations.{at_run, early_taken, effect_of, error_taken, first_at, new_wait, note_of, plan_at, sleep_at, slept, taken_again, taken_of, too_many_steps, wait_at, waited};
 ghost use Rattle.machine.specs.View.{state_of};
 ghost use Rattle.machine.specs.Words.{fail_at, retries_at};
 ghost use Rattle.machine.specs.declared.operations.Taken.TheVariants.{Stops};
-ghost use Rattle.run_model.specs.Fit.{IsAside};
+ghost use Rattle.run_model.specs.Recording.{change_run};
 ghost use Rattle.run_model.specs.Replies.{begun, due_at, take_operation, take_operations};
 ghost use Rattle.run_model.specs.State.{live_run};
-ghost use Rattle.runs.specs.Changes.{if_new, naming_in, pend_in, plan_in};
+ghost use Rattle.runs.specs.Changes.{if_new, naming_in, pend_in, plan_in, with_pending, with_plan};
 
 use crate::Parts;
 use crate::machine::LAST_MOMENT;
@@ -42,21 +42,20 @@ impl Parts {
         steps: &mut Steps<L>,
     ) -> Result<Taken, Memory>
         requires held { IsHeld self.old }
-        requires aside { IsAside item.now (state_of self.old) }
         ensures taken { IfOk result (λ t. t
             ≡ taken_of (take_operations item.now no_retry ops (begun (state_of self.old)))) }
         ensures now { OnOk result (Becomes
             (take_operations item.now no_retry ops (begun (state_of self.old))).state self.old self.new) }
     {
-        let mut all = Taken::GoesOn;
+        let mut again = false;
         for op in ops {
-            match self.take_operation(item, op, no_retry, steps)? {
-                Taken::GoesOn => {}
-                Taken::Again => all = Taken::Again,
-                Taken::Stops => return Ok(Taken::Stops),
+            let taken = self.take_operation(item, op, no_retry, steps)?;
+            if taken == Taken::Stops {
+                return Ok(Taken::Stops);
             }
+            again = again || taken == Taken::Again;
         }
-        Ok(all)
+        Ok(taken_again(again))
     }
 
     fn take_operation<L: Ledger>(
@@ -72,37 +71,64 @@ impl Parts {
         ensures now { OnOk result (Becomes
             (take_operation item.now no_retry op (begun (state_of self.old))).state self.old self.new) }
     {
-        let run = item.run;
-        let naming = match op {
+        if let Some(taken) = self.take_early(item, &op, no_retry) {
+            return Ok(taken);
+        }
+        match self.take_named(item.run, op)? {
+            Naming::New | Naming::Known => Ok(Taken::GoesOn),
+            Naming::Full => self.stop(item.run, steps),
+        }
+    }
+
+    // An error that isn't the last.
+    fn take_early(&self, item: &Item, op: &Op, no_retry: bool) -> Option<Taken>
+        ensures { result
+            ≡ early_taken item.now no_retry op.now (live_run item.now.run (state_of self.now)) (state_of self.now) }
+    {
+        match op {
+            Op::StepError { hash, .. } if !no_retry && !self.is_last(item) => {
+                Some(self.take_error(item.run, hash))
+            }
+            Op::StepRun { .. }
+            | Op::StepError { .. }
+            | Op::StepPlanned { .. }
+            | Op::Sleep { .. }
+            | Op::WaitForEvent { .. }
+            | Op::InvokeFunction { .. } => None,
+        }
+    }
+
+    // What an operation makes of its name.
+    fn take_named(&mut self, run: u64, op: Op) -> Result<Naming, Memory>
+        requires held { IsHeld self.old }
+        ensures named { IfOk result (λ n. n ≡ naming_in (note_of op) (live_run run (state_of self.old))) }
+        ensures now { IfOk result (λ n. Becomes (if_new n
+            (at_run (effect_of op) (live_run run (state_of self.old)) (state_of self.old))
+            (state_of self.old)) self.old self.new) }
+    {
+        match op {
             Op::StepRun { hash, value } => {
                 let result = data_result(self.alloc, value.as_slice())?;
-                self.keep(run, &hash, result)?
+                self.keep(run, &hash, result)
             }
             Op::StepError { hash, error } => {
-                if !no_retry && !self.is_last(item) {
-                    return Ok(self.take_error(run, &hash));
-                }
                 let result = error_result(self.alloc, error.as_slice())?;
-                self.keep(run, &hash, result)?
+                self.keep(run, &hash, result)
             }
-            Op::StepPlanned { hash } => self.plan(run, &hash)?,
-            Op::Sleep { hash, time } => self.sleep(run, hash, time)?,
+            Op::StepPlanned { hash } => self.plan(run, &hash),
+            Op::Sleep { hash, time } => self.sleep(run, hash, time),
             Op::WaitForEvent {
                 hash,
                 event,
                 timeout,
                 cond,
-            } => self.wait(run, hash, event, timeout, cond)?,
+            } => self.wait(run, hash, event, timeout, cond),
             Op::InvokeFunction {
                 hash,
                 function,
                 payload,
                 timeout,
-            } => self.invoke(run, hash, &function, payload, timeout)?,
-        };
-        match naming {
-            Naming::New | Naming::Known => Ok(Taken::GoesOn),
-            Naming::Full => self.stop(run, steps),
+            } => self.invoke(run, hash, &function, payload, timeout),
         }
     }
 
@@ -147,10 +173,34 @@ impl Parts {
             (plan_at (live_run run (state_of self.old)) hash.now (state_of self.old))
             (state_of self.old)) self.old self.new) }
     {
-        let naming = self.runs.plan(run, hash)?;
-        if naming == Naming::New {
-            self.queue_new(run, hash.as_slice())?;
+        let naming = self.note_plan(run, hash)?;
+        if naming != Naming::New {
+            return Ok(naming);
         }
+        self.queue_new(run, hash.as_slice())?;
+        Ok(Naming::New)
+    }
+
+    fn note_plan(&mut self, run: u64, hash: &StepHash) -> Result<Naming, Memory>
+        requires held { IsHeld self.old }
+        ensures named { IfOk result (λ n. n ≡ naming_in (plan_in hash.now) (live_run run (state_of self.old))) }
+        ensures now { IfOk result (λ n. Becomes (if_new n
+            (change_run run (with_plan hash.now) (state_of self.old))
+            (state_of self.old)) self.old self.new) }
+    {
+        let naming = self.runs.plan(run, hash)?;
+        Ok(naming)
+    }
+
+    /// A step waits for something.
+    pub(crate) fn pend(&mut self, run: u64, hash: &StepHash, kind: Pending) -> Result<Naming, Memory>
+        requires held { IsHeld self.old }
+        ensures named { IfOk result (λ n. n ≡ naming_in (pend_in hash.now kind) (live_run run (state_of self.old))) }
+        ensures now { IfOk result (λ n. Becomes (if_new n
+            (change_run run (with_pending hash.now kind) (state_of self.old))
+            (state_of self.old)) self.old self.new) }
+    {
+        let naming = self.runs.pend(run, hash, kind)?;
         Ok(naming)
     }
 
@@ -161,18 +211,27 @@ impl Parts {
             (sleep_at (live_run run (state_of self.old)) hash time (state_of self.old))
             (state_of self.old)) self.old self.new) }
     {
-        let naming = self.runs.pend(run, &hash, Pending::Sleep)?;
-        if naming == Naming::New {
-            let due = self.due_at(time)?;
-            let number = self.counts.next_entry()?;
-            self.sleeps.add(Sleep {
-                number,
-                run,
-                hash,
-                due,
-            })?;
+        let naming = self.pend(run, &hash, Pending::Sleep)?;
+        if naming != Naming::New {
+            return Ok(naming);
         }
-        Ok(naming)
+        self.add_sleep(run, hash, time)?;
+        Ok(Naming::New)
+    }
+
+    fn add_sleep(&mut self, run: u64, hash: StepHash, time: Time) -> Result<(), Memory>
+        requires held { IsHeld self.old }
+        ensures { OnOk result (Becomes (slept run hash time (state_of self.old)) self.old self.new) }
+    {
+        let due = self.due_at(time)?;
+        let number = self.counts.next_entry()?;
+        self.sleeps.add(Sleep {
+            number,
+            run,
+            hash,
+            due,
+        })?;
+        Ok(())
     }
 
     /// When something is due: not before the moment, and not after the last.
@@ -199,13 +258,29 @@ impl Parts {
             (wait_at (live_run run (state_of self.old)) hash name timeout cond (state_of self.old))
             (state_of self.old)) self.old self.new) }
     {
-        let naming = self.runs.pend(run, &hash, Pending::Wait)?;
-        if naming == Naming::New {
-            let wait = self.new_wait(run, name, timeout, cond)?;
-            self.counts.next_entry()?;
-            self.waits.add(wait, hash)?;
+        let naming = self.pend(run, &hash, Pending::Wait)?;
+        if naming != Naming::New {
+            return Ok(naming);
         }
-        Ok(naming)
+        self.add_wait(run, hash, name, timeout, cond)?;
+        Ok(Naming::New)
+    }
+
+    fn add_wait(
+        &mut self,
+        run: u64,
+        hash: StepHash,
+        name: Bytes,
+        timeout: Time,
+        cond: Option<Expr>,
+    ) -> Result<(), Memory>
+        requires held { IsHeld self.old }
+        ensures { OnOk result (Becomes (waited run hash name timeout cond (state_of self.old)) self.old self.new) }
+    {
+        let wait = self.new_wait(run, name, timeout, cond)?;
+        self.counts.next_entry()?;
+        self.waits.add(wait, hash)?;
+        Ok(())
     }
 
     fn new_wait(
@@ -241,4 +316,10 @@ impl Parts {
             None => 0,
         }
     }
+}
+
+fn taken_again(again: bool) -> Taken
+    ensures { result ≡ taken_again again }
+{
+    if again { Taken::Again } else { Taken::GoesOn }
 }

@@ -1,9 +1,10 @@
 // What a reply to a call does, and a call that fails.
-ghost use Rattle.std.specs.Prelude.{◌≡◌, ◌<◌, IfOk, OnOk};
+ghost use Rattle.std.specs.Prelude.{◌≡◌, ◌<◌, IfOk, IfSome, OnOk};
+ghost use Rattle.std.specs.List.{list_any};
 ghost use Rattle.kinds.specs.ErrorObject.{error_object};
-ghost use Rattle.kinds.specs.RunSteps.{is_recorded};
+ghost use Rattle.kinds.specs.RunSteps.{has_name, is_recorded};
 ghost use Rattle.machine.specs.Held.{Becomes, IsHeld};
-ghost use Rattle.machine.specs.Replies.{idle_at, lacks, next_of, ops_at, outcome_at};
+ghost use Rattle.machine.specs.Replies.{HasRoom, idle_at, lacks, next_of, ops_at, outcome_at};
 ghost use Rattle.machine.specs.View.{state_of};
 ghost use Rattle.machine.specs.Words.{item_in};
 ghost use Rattle.run_model.specs.Fit.{HasOwnNumbers, IsAside};
@@ -14,7 +15,7 @@ ghost use Rattle.run_model.specs.State.{function_at, live_run, open_issue};
 use crate::Parts;
 use crate::making::{STEP, later};
 use crate::operations::Taken;
-use kinds::{After, Item, Op, Outcome, ReplyIn, StepHash, Steps, error_object};
+use kinds::{After, Item, Op, Outcome, ReplyIn, StepEntry, StepHash, Steps, error_object};
 use lists::{Items, Memory};
 use runs::Run;
 use sdk_reply::{delay, read_reply};
@@ -158,7 +159,8 @@ impl Parts {
     }
 
     fn next_of(&self, item: &Item) -> Next
-        ensures { result ≡ next_of (live_run item.now.run (state_of self.now)) item.now (state_of self.now) }
+        ensures next { result ≡ next_of (live_run item.now.run (state_of self.now)) item.now (state_of self.now) }
+        ensures room { HasRoom result item.now.attempt }
     {
         let Some(run) = self.runs.live(item.run) else {
             return Next::Nothing;
@@ -256,11 +258,19 @@ pub(crate) fn has_recorded(run: &Run, target: &[u8]) -> bool
 {
     match hash_of(target) {
         Some(hash) => run.is_recorded(&hash),
-        None => false,
+        None => has_step(run.steps(), target),
     }
 }
 
-fn hash_of(target: &[u8]) -> Option<StepHash> {
+fn has_step(steps: &[StepEntry], name: &[u8]) -> bool
+    ensures { result ≡ list_any (has_name name.now) steps.now }
+{
+    steps.iter().any(|step| name == step.hash.as_slice())
+}
+
+fn hash_of(target: &[u8]) -> Option<StepHash>
+    ensures { IfSome result (λ hash. hash ≡ target.now) }
+{
     if target.len() != 40 {
         return None;
     }
@@ -273,14 +283,20 @@ fn hash_of(target: &[u8]) -> Option<StepHash> {
 fn lacks_target(target: &[u8], ops: &[Op]) -> bool
     ensures { result ≡ lacks target.now ops.now }
 {
-    target != STEP && !ops.iter().any(|op| is_outcome_of(target, op))
+    target != STEP && !tells_of(target, ops)
+}
+
+fn tells_of(target: &[u8], ops: &[Op]) -> bool
+    ensures { result ≡ list_any (is_outcome_of target.now) ops.now }
+{
+    ops.iter().any(|op| is_outcome_of(target, op))
 }
 
 fn is_outcome_of(target: &[u8], op: &Op) -> bool
     ensures { result ≡ is_outcome_of target.now op.now }
 {
     match op {
-        Op::StepRun { hash, .. } | Op::StepError { hash, .. } => hash.as_slice() == target,
+        Op::StepRun { hash, .. } | Op::StepError { hash, .. } => target == hash.as_slice(),
         Op::StepPlanned { .. }
         | Op::Sleep { .. }
         | Op::WaitForEvent { .. }
