@@ -27,6 +27,10 @@ use Rattle.machine.proofs.HeldEvents.{untouched}
 use Rattle.machine.proofs.HeldMaking.{wants-queued}
 use Rattle.machine.proofs.HeldWords.{becomes-same}
 
+pub none-of : {X : Type 0} (found : Option X) → ((x : X) → found ≡ Some x → ⊥) → found ≡ None
+none-of None h = refl
+none-of (Some x) h = absurd (h x refl)
+
 -- ## A call is open no more
 
 abbrev AreOwn : List Issue → Type 0

@@ -1,7 +1,8 @@
 -- What a reply and a failed call do, by what is asked of the state.
-use Rattle.std.proofs.Common.{◌≡◌, ℕ, ◌==◌, Bool, true, false, not, cond, ◌&&◌, ◌||◌, List, [], ◌∷◌, filter, find, codes, Option, Some, None, nat_lt, refl, sym, ap, ◌∙◌, subst, eqb-true}
+use Rattle.std.proofs.Common.{◌≡◌, ℕ, ◌==◌, Bool, true, false, not, cond, ◌&&◌, ◌||◌, List, [], ◌∷◌, filter, find, length, codes, Option, Some, None, nat_le, nat_lt, arith, refl, sym, ap, ◌∙◌, subst, eqb-true}
 use Rattle.std.specs.Prelude.{is_some}
 use Rattle.std.specs.List.{list_any}
+use Rattle.std.proofs.lemmas.Bool.Decides.{nat_tests}
 use Rattle.admission.specs.Issues.{has_call}
 use Rattle.kinds.specs.ErrorObject.{error_object}
 use Rattle.kinds.specs.RunSteps.{Noting, adds, known, full, is_recorded}
@@ -25,7 +26,7 @@ use Rattle.run_model.proofs.Kept.{own-number}
 use Rattle.run_model.proofs.KeptReplies.{kept-take_operation}
 use Rattle.run_model.proofs.SettlingLists.{found-passes}
 use Rattle.machine.specs.Operations.{taken_by, taken_of}
-use Rattle.machine.specs.Replies.{idle_at, next_by, next_of, ops_at, outcome_at}
+use Rattle.machine.specs.Replies.{idle_at, is_called, is_resting, next_by, next_of, ops_at, outcome_at}
 use Rattle.machine.specs.Words.{complete_at, fail_at, item_in}
 use Rattle.machine.specs.declared.operations.Taken.{Taken}
 use Rattle.machine.specs.declared.operations.Taken.TheVariants.{GoesOn, Again, Stops}
@@ -378,3 +379,23 @@ some-by x any rest h false = h
 pub some-found : {X : Type 0} (p : X → Bool) (xs : List X) → list_any p xs ≡ is_some (find p xs)
 some-found p [] = refl
 some-found p (x ∷ xs) = some-by x (list_any p xs) (find p xs) (some-found p xs) (p x)
+
+-- ## A run that nothing would move
+
+zero-test : (n : ℕ) → (n == 0) ≡ not (nat_le 1 n)
+zero-test n = grind (arith, nat_tests)
+
+idle-by : (a b w : Bool) (n : ℕ)
+    → (not a && not b && (n == 0) && not w) ≡ (not (a || b) && (not (nat_le 1 n) && not w))
+idle-by true b w n = refl
+idle-by false true w n = refl
+idle-by false false w n = ap (λ c. c && not w) (zero-test n)
+
+pub idle-is : (number : ℕ) (r : Run) (s : State) → live_run number s ≡ Some r
+    → idle_at (live_run number s) s ≡ (not (is_called number s) && is_resting r)
+idle-is number r s found =
+    ap (λ f. idle_at f s) found
+    ∙ idle-by (list_any (λ (i : Item). r.number == i.run) s.items)
+    (list_any (λ (i : Issue). r.number == i.item.run) s.issues) r.wanted (length r.steps.pending)
+    ∙ ap (λ n. not (is_called n s) && is_resting r)
+    (sym (eqb-true number r.number (found-passes (λ (q : Run). number == q.number) s.live r found)))

@@ -4,7 +4,7 @@ ghost use Rattle.std.specs.List.{list_any};
 ghost use Rattle.kinds.specs.ErrorObject.{error_object};
 ghost use Rattle.kinds.specs.RunSteps.{has_name, is_recorded};
 ghost use Rattle.machine.specs.Held.{Becomes, IsHeld};
-ghost use Rattle.machine.specs.Replies.{HasRoom, idle_at, lacks, next_of, ops_at, outcome_at};
+ghost use Rattle.machine.specs.Replies.{HasRoom, idle_at, is_called, is_resting, lacks, next_of, ops_at, outcome_at};
 ghost use Rattle.machine.specs.View.{state_of};
 ghost use Rattle.machine.specs.Words.{item_in};
 ghost use Rattle.run_model.specs.Fit.{HasOwnNumbers, IsAside};
@@ -233,14 +233,25 @@ impl Parts {
     fn is_idle(&self, number: u64) -> bool
         ensures { result ≡ idle_at (live_run number (state_of self.now)) (state_of self.now) }
     {
-        let Some(run) = self.runs.live(number) else {
-            return false;
-        };
-        !self.admission.has_items_of(number)
-            && !self.admission.has_open_call(number)
-            && !run.is_waiting()
-            && !run.is_wanted()
+        match self.runs.live(number) {
+            Some(run) => !self.is_called(number) && is_resting(run),
+            None => false,
+        }
     }
+
+    // Whether an item of a run is queued, or a call of it is open.
+    fn is_called(&self, number: u64) -> bool
+        ensures { result ≡ is_called number (state_of self.now) }
+    {
+        self.admission.has_items_of(number) || self.admission.has_open_call(number)
+    }
+}
+
+// Whether a run waits for nothing, and isn't to find out what comes next.
+fn is_resting(run: &Run) -> bool
+    ensures { result ≡ is_resting run.now }
+{
+    !run.is_waiting() && !run.is_wanted()
 }
 
 // What becomes of an item whose call failed.
