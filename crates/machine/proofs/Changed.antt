@@ -12,7 +12,7 @@ use Rattle.lists.specs.Entries.{has}
 use Rattle.runs.specs.Changes.{changed}
 use Rattle.runs.specs.Ended.{ended_number}
 use Rattle.runs.specs.Runs.{is_in, run_number}
-use Rattle.run_model.proofs.Members.{all-map}
+use Rattle.run_model.proofs.Members.{all-in, all-map}
 use Rattle.run_model.specs.Making.{is_item_of, step_target}
 use Rattle.run_model.specs.Recording.{without_item}
 use Rattle.run_model.specs.State.{Run, Issue, EventText, EndedRun}
@@ -116,45 +116,48 @@ module _ (number : ℕ) (f : Run → Run) (keeps : KeepsNames f) where
 
 -- ## What finds out what comes next
 
--- a step of another run isn't one of this
 both : (a b : Bool) → a ≡ false → (a && b) ≡ false
 both true b h = cc
 both false b h = refl
 
+-- an item of a run isn't one of another
+pub apart-run : (run other : ℕ) (i : Item) (target : List ℕ) → (run == other) ≡ false → (run == i.run) ≡ true
+    → is_item_of other target i ≡ false
+apart-run run other i target differ here =
+    both (other == i.run) _ (ap (λ n. other == n) (sym (eqb-true run i.run here)) ∙ flips run other differ)
+  where
+    flips : (n m : ℕ) → (n == m) ≡ false → (m == n) ≡ false
+    flips n m h = grind (arith, h)
+
+-- a step of another run isn't one of this
 apart-runs : (run other : ℕ) (i : Item) (target : List ℕ) (name : List ℕ) → (run == other) ≡ false
     → is_item_of run name i ≡ true → is_item_of other target i ≡ false
-apart-runs run other i target name differ here =
-    both (other == i.run) _ (by_test (run == i.run) refl)
+apart-runs run other i target name differ here = apart-run run other i target differ (left (run == i.run) _ here)
   where
     left : (a b : Bool) → (a && b) ≡ true → a ≡ true
     left true b h = refl
     left false b h = cc
 
-    by_test : (b : Bool) → (run == i.run) ≡ b → (other == i.run) ≡ false
-    by_test true t = ap (λ n. other == n) (sym (eqb-true run i.run t)) ∙ flips run other differ
-      where
-        flips : (n m : ℕ) → (n == m) ≡ false → (m == n) ≡ false
-        flips n m h = grind (arith, h)
-    by_test false t = cc
-
--- what is dropped of one run isn't found of another
-any-without : (p q : Item → Bool) → ((i : Item) → q i ≡ true → p i ≡ false) → (is : List Item)
-    → list_any p (filter (λ i. not (q i)) is) ≡ list_any p is
-any-without p q apart [] = refl
-any-without p q apart (i ∷ is) = by_test (q i) refl (any-without p q apart is)
+-- where what is dropped doesn't pass, what passes is there as before
+pub any-without : {X : Type 0} (p q : X → Bool) (xs : List X) → AllByRecursion (λ x. q x ≡ true → p x ≡ false) xs
+    → list_any p (filter (λ x. not (q x)) xs) ≡ list_any p xs
+any-without p q [] apart = refl
+any-without p q (x ∷ xs) apart = by_test (q x) refl apart.0 (any-without p q xs apart.1)
   where
-    by_test : (b : Bool) → q i ≡ b → list_any p (filter (λ j. not (q j)) is) ≡ list_any p is
-        → list_any p (cond (not b) (i ∷ filter (λ j. not (q j)) is) (filter (λ j. not (q j)) is))
-        ≡ (p i || list_any p is)
-    by_test true t rest = rest ∙ ap (λ b. b || list_any p is) (sym (apart i t))
-    by_test false f rest = ap (λ b. p i || b) rest
+    by_test : (b : Bool) → q x ≡ b → (q x ≡ true → p x ≡ false)
+        → list_any p (filter (λ y. not (q y)) xs) ≡ list_any p xs
+        → list_any p (cond (not b) (x ∷ filter (λ y. not (q y)) xs) (filter (λ y. not (q y)) xs))
+        ≡ (p x || list_any p xs)
+    by_test true t off rest = rest ∙ ap (λ b. b || list_any p xs) (sym (off t))
+    by_test false f off rest = ap (λ b. p x || b) rest
 
 pub left-without : (run : ℕ) (name : List ℕ) (items : List Item) (issues : List Issue) (r : Run)
     → (run == r.number) ≡ false → is_left (without_item run name items) issues r ≡ is_left items issues r
 left-without run name items issues r differ =
     ap (λ b. r.wanted && not (b || list_any (λ (i : Issue). is_item_of r.number step_target i.item) issues))
-    (any-without (is_item_of r.number step_target) (is_item_of run name)
-    (λ i here. apart-runs run r.number i step_target name differ here) items)
+    (any-without (is_item_of r.number step_target) (is_item_of run name) items
+    (all-in (λ (i : Item). is_item_of run name i ≡ true → is_item_of r.number step_target i ≡ false) items
+    (λ i there here. apart-runs run r.number i step_target name differ here)))
 
 -- a run changes that is noted from now on, and items of it go
 pub wants-changed : (run : ℕ) (name : List ℕ) (f : Run → Run) (live : List Run) (items : List Item)

@@ -1,15 +1,17 @@
 -- The parts after a run records, or is to find out what comes next.
-use Rattle.std.proofs.Common.{◌≡◌, ℕ, true, List, refl, sym, subst}
+use Rattle.std.proofs.Common.{◌≡◌, ℕ, Bool, true, false, cond, List, refl, sym, ap, ◌∙◌, subst}
 use Rattle.admission.specs.Admission.{Admission}
-use Rattle.runs.specs.Changes.{changed, record_in, want}
-use Rattle.runs.specs.Runs.{Run, RunLists}
-use Rattle.run_model.specs.Recording.{change_run, record_result, without_item}
+use Rattle.runs.specs.Changes.{changed, is_pending_in, record_in, want}
+use Rattle.runs.specs.Runs.{Run, RunLists, run_at}
+use Rattle.run_model.specs.Recording.{change_run, record_result, wake_step, without_item}
+use Rattle.run_model.specs.State.{State}
 use Rattle.run_model.proofs.FitRuns.{fit-record_result, fit-wanted}
 use Rattle.machine.specs.Held.{Becomes, IsHeld}
 use Rattle.machine.specs.Numbers.{IsJoined}
 use Rattle.machine.specs.View.{state_of}
 use Rattle.machine.specs.declared.parts.Parts.{Parts}
 use Rattle.machine.proofs.Changed.{KeepsNames, ends-changed, events-changed, versions-changed, wants-changed, wants-noted}
+use Rattle.machine.proofs.HeldWords.{becomes-same}
 
 pub keeps-record : (name result : List ℕ) → KeepsNames (record_in name result)
 keeps-record name result = record { number = λ r. refl; events = λ r. refl; version = λ r. refl }
@@ -96,3 +98,34 @@ held-want m run wanting rs live closing joined h =
     subst (λ (l : RunLists). Becomes (change_run run want (state_of m)) m (record m { runs = l; wanting = wanting }))
     (sym (as-lists rs (changed run want m.runs.live) m.runs.closing live closing))
     (held-wanted m run wanting joined h)
+
+-- ## What was awaited
+
+pub held-wake : (m : Parts) (run : ℕ) (name result wanting : List ℕ) (a : Admission) (rs : RunLists) (woken : Bool)
+    → woken ≡ true → woken ≡ is_pending_in name (run_at run m.runs.live)
+    → rs.live ≡ cond woken (changed run (record_in name result) m.runs.live) m.runs.live
+    → rs.closing ≡ m.runs.closing
+    → a ≡ record m.admission { items = without_item run name m.admission.items }
+    → IsJoined run m.wanting wanting → IsHeld m
+    → Becomes (wake_step run name result (state_of m)) m (record m { admission = a; runs = rs; wanting = wanting })
+held-wake m run name result wanting a rs woken is told live closing items joined h =
+    let n : Parts = record m { admission = a; runs = rs; wanting = wanting } in
+    let s : State = state_of m in
+    subst (λ b. Becomes (elim b as (λ _. State) [ true ↦ record_result run name result s | false ↦ s ]) m n)
+    (sym is ∙ told)
+    (held-record m run name result wanting a rs items
+    (live ∙ ap (λ b. cond b (changed run (record_in name result) m.runs.live) m.runs.live) is) closing joined h)
+
+pub held-asleep : (m : Parts) (run : ℕ) (name result : List ℕ) (rs : RunLists) (woken : Bool)
+    → woken ≡ false → woken ≡ is_pending_in name (run_at run m.runs.live)
+    → rs.live ≡ cond woken (changed run (record_in name result) m.runs.live) m.runs.live
+    → rs.closing ≡ m.runs.closing → IsHeld m
+    → Becomes (wake_step run name result (state_of m)) m (record m { runs = rs })
+held-asleep m run name result rs woken is told live closing h =
+    let s : State = state_of m in
+    subst (λ b. Becomes (elim b as (λ _. State) [ true ↦ record_result run name result s | false ↦ s ]) m
+    (record m { runs = rs })) (sym is ∙ told)
+    (subst (λ (l : RunLists). Becomes s m (record m { runs = l }))
+    (sym (as-lists rs m.runs.live m.runs.closing
+    (live ∙ ap (λ b. cond b (changed run (record_in name result) m.runs.live) m.runs.live) is) closing))
+    (becomes-same m h))

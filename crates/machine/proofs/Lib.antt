@@ -1,8 +1,10 @@
 pub mod Changed
 pub mod Discovered
 pub mod Empty
+pub mod EndWords
 pub mod Found
 pub mod Gone
+pub mod HeldEnds
 pub mod HeldEvents
 pub mod HeldFunctions
 pub mod HeldInvocations
@@ -18,8 +20,10 @@ pub mod Joined
 pub mod Matched
 pub mod NextHeld
 pub mod Pended
+pub mod Raised
 pub mod Replied
 pub mod Staying
+pub mod Told
 pub mod VersionLemmas
 pub mod VersionSearch
 pub mod ViewLemmas

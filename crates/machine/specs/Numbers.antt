@@ -17,6 +17,11 @@ pub record IsJoined (n : ℕ) (old new : List ℕ) : Type 0 where
   pub there : has_number new n ≡ true
   pub kept : Keeps old new
 
+-- one number more is there, where there is one
+abbrev pub IsJoinedBy : Option ℕ → List ℕ → List ℕ → Type 0
+IsJoinedBy None old new = new ≡ old
+IsJoinedBy (Some n) old new = IsJoined n old new
+
 -- these are there too
 pub record AreJoined (ns old new : List ℕ) : Type 0 where
   pub there : AllByRecursion (λ n. has_number new n ≡ true) ns

@@ -12,7 +12,8 @@ use Rattle.kinds.specs.declared.store.RunStatus.{RunStatus}
 use Rattle.lists.specs.Entries.{in_order}
 use Rattle.runs.specs.Ended.{ended_names, ended_number}
 use Rattle.runs.specs.Runs.{names_event, run_number}
-use Rattle.run_model.specs.Ends.{cancel_run, complete_run, end_run, fail_run, failed_event, first_text, is_of_failure, raise_failed}
+use Rattle.step_ids.specs.Run.{run_text}
+use Rattle.run_model.specs.Ends.{cancel_run, complete_run, end_run, fail_run, failed_content, failed_name, first_text, function_id, is_of_failure, own_event, raise}
 use Rattle.run_model.specs.Making.{has_discovery, make_run, queue_new}
 use Rattle.run_model.specs.Next.{View}
 use Rattle.run_model.specs.Recording as recording
@@ -66,9 +67,21 @@ abbrev pub cancel_at : recording.Discovery → Option Run → State → State
 cancel_at discovery None s = s
 cancel_at discovery (Some r) s = cancel_run discovery r s
 
-abbrev pub raise_at : Option Run → List ℕ → State → State
-raise_at None error s = s
-raise_at (Some r) error s = raise_failed r error s
+-- the content of the event of a run that fails; none for a run of such an event
+abbrev pub content_by : Bool → List ℕ → Option (List ℕ)
+content_by true content = None
+content_by false content = Some content
+
+abbrev pub content_at : Option Run → List ℕ → State → Option (List ℕ)
+content_at None error s = None
+content_at (Some r) error s =
+    content_by (is_of_failure (first_text r s))
+    (failed_content (function_id r s) (run_text r.moment r.number) error (first_text r s))
+
+-- the event of a failed run
+abbrev pub raise_by : Option (List ℕ) → State → State
+raise_by None s = s
+raise_by (Some content) s = raise (own_event failed_name content None None) s
 
 -- ## Replies
 
@@ -79,15 +92,6 @@ retries_at (Some r) s = retries_of r s
 abbrev pub item_in : Option Issue → Option Item
 item_in None = None
 item_in (Some i) = Some i.item
-
--- the event of a failed run; none for a run of such an event
-abbrev pub failed_by : Bool → EventIn → Option EventIn
-failed_by true event = None
-failed_by false event = Some event
-
-abbrev pub failed_at : Option Run → List ℕ → State → Option EventIn
-failed_at None error s = None
-failed_at (Some r) error s = failed_by (is_of_failure (first_text r s)) (failed_event r error s)
 
 -- ## Events
 

@@ -1,14 +1,14 @@
 // How a run ends: what of it goes, what its parent records, and the event of a failed run.
-ghost use Rattle.std.specs.Prelude.{◌≡◌, IfOk, OnOk};
+ghost use Rattle.std.specs.Prelude.{◌≡◌, ◌≤◌, None, IfOk, OnOk};
 ghost use Rattle.std.specs.Option.{option_map};
+ghost use Rattle.kinds.specs.Moments.{last_moment};
 ghost use Rattle.machine.specs.Ends.{ending_of};
 ghost use Rattle.machine.specs.Held.{Becomes, IsHeld};
 ghost use Rattle.machine.specs.View.{state_of};
-ghost use Rattle.machine.specs.Words.{cancel_at, complete_at, end_at, fail_at, failed_at, parent_at, raise_at, when_of};
-ghost use Rattle.run_model.specs.Ends.{ended_run, failed_content, function_id, id_at, raise, tell_parent};
+ghost use Rattle.machine.specs.Words.{cancel_at, complete_at, content_at, end_at, fail_at, parent_at, raise_by, when_of};
+ghost use Rattle.run_model.specs.Ends.{ended_run, failed_content, failed_name, function_id, id_at, is_of_failure, own_event, raise, tell_parent, without_invocation_of};
 ghost use Rattle.run_model.specs.State.{function_at, live_run};
 ghost use Rattle.runs.specs.Changes.{is_pending_in};
-ghost use Rattle.runs.specs.Runs.{run_at};
 ghost use Rattle.step_ids.specs.Run.{run_text};
 
 use crate::Parts;
@@ -25,6 +25,9 @@ const FAILED: &[u8] = b"inngest/function.failed";
 
 /// How the text of such an event begins.
 const FAILED_BEGUN: &[u8] = b"{\"name\":\"inngest/function.failed\",";
+
+/// The greatest number of a run that an id has room for.
+const MOST_RUNS: u64 = (1 << 62) - 1;
 
 /// What is looked up of a run that ends.
 #[derive(Drop)]
@@ -57,10 +60,11 @@ impl Parts {
         ensures { OnOk result (Becomes
             (fail_at (live_run run (state_of self.old)) error.now (state_of self.old)) self.old self.new) }
     {
+        let content = self.failed_content(run, error)?;
         let parent = self.end_run(run, RunStatus::Failed)?;
         let result = error_result(self.alloc, error)?;
         self.tell_parent(parent, result, Discovery::AtTheEnd)?;
-        self.raise_failed(run, error, steps)
+        self.raise_failed(content, steps)
     }
 
     /// A run is cancelled, where it has not ended. Its children go on.
@@ -104,9 +108,8 @@ impl Parts {
         self.waits.drop_run(number);
         self.invocations.drop_run(number);
         self.rules.drop_run(number);
-        if let Some(out) = self.ended.add(ended)? {
-            self.loose.runs.insert(out)?;
-        }
+        let out = self.ended.add(ended)?;
+        self.loose.runs.insert_some(out)?;
         Ok(parent)
     }
 
@@ -163,9 +166,17 @@ impl Parts {
         if !self.awaits(&parent) {
             return Ok(());
         }
-        self.invocations.remove_of(&parent);
+        self.forget_invocation(&parent);
         self.wake(parent.run, &parent.hash, text)?;
         self.discovered(discovery)
+    }
+
+    // An invocation has come to its end.
+    fn forget_invocation(&mut self, parent: &Parent)
+        requires held { IsHeld self.old }
+        ensures { Becomes (without_invocation_of parent.now (state_of self.old)) self.old self.new }
+    {
+        self.invocations.remove_of(parent);
     }
 
     // Whether the step of a parent waits.
@@ -178,59 +189,66 @@ impl Parts {
         }
     }
 
-    // None for a run of such an event.
-    fn raise_failed<L: Ledger>(
-        &mut self,
-        run: u64,
-        error: &[u8],
-        steps: &mut Steps<L>,
-    ) -> Result<(), Memory>
-        requires held { IsHeld self.old }
-        ensures { OnOk result (Becomes
-            (raise_at (run_at run self.old.runs.closing) error.now (state_of self.old)) self.old self.new) }
+    // The content of the event of a run that fails; none for a run of such an event.
+    fn failed_content(&self, run: u64, error: &[u8]) -> Result<Option<Bytes>, Memory>
+        requires held { IsHeld self.now }
+        ensures { IfOk result (λ text. text
+            ≡ content_at (live_run run (state_of self.now)) error.now (state_of self.now)) }
     {
-        match self.failed_event(run, error)? {
-            Some(event) => self.raise(&event, steps),
-            None => Ok(()),
-        }
-    }
-
-    // The event of a failed run.
-    fn failed_event(&self, run: u64, error: &[u8]) -> Result<Option<EventIn>, Memory>
-        ensures { IfOk result (λ event. event
-            ≡ failed_at (run_at run self.now.runs.closing) error.now (state_of self.now)) }
-    {
-        let Some(run) = self.runs.find_closing(run) else {
+        let Some(run) = self.runs.live(run) else {
             return Ok(None);
         };
         let first = self.texts.text_or_none(run.first());
-        if first.starts_with(FAILED_BEGUN) {
+        if is_of_failure(first) {
             return Ok(None);
         }
-        Ok(Some(EventIn {
-            name: Bytes::from_slice(self.alloc, FAILED)?,
-            content: self.failed_content(run, error, first)?,
-            id: None,
-            ts: None,
-            user: None,
-            v: None,
-        }))
+        Ok(Some(self.content_of(run, error, first)?))
     }
 
-    fn failed_content(&self, run: &Run, error: &[u8], first: &[u8]) -> Result<Bytes, Memory>
+    fn content_of(&self, run: &Run, error: &[u8], first: &[u8]) -> Result<Bytes, Memory>
+        requires dated { run.now.moment ≤ last_moment }
         ensures { IfOk result (λ text. text ≡ failed_content (function_id run.now (state_of self.now))
             (run_text run.now.moment run.now.number) error.now first.now) }
     {
         let mut content = Bytes::from_slice(self.alloc, b"{\"function_id\":\"")?;
         content.extend_from_slice(self.function_id(run.version())?.as_slice())?;
         content.extend_from_slice(b"\",\"run_id\":\"")?;
-        content.extend_from_slice(run_id(run.moment(), run.number()).as_slice())?;
+        content.extend_from_slice(id_of(run)?.as_slice())?;
         content.extend_from_slice(b"\",\"error\":")?;
         content.extend_from_slice(error)?;
         content.extend_from_slice(b",\"event\":")?;
         content.extend_from_slice(first)?;
         content.extend_from_slice(b"}")?;
         Ok(content)
+    }
+
+    // The event of a failed run, where there is one.
+    fn raise_failed<L: Ledger>(
+        &mut self,
+        content: Option<Bytes>,
+        steps: &mut Steps<L>,
+    ) -> Result<(), Memory>
+        requires held { IsHeld self.old }
+        ensures { OnOk result (Becomes (raise_by content (state_of self.old)) self.old self.new) }
+    {
+        let Some(content) = content else {
+            return Ok(());
+        };
+        let event = self.failed_event(content)?;
+        self.raise(&event, steps)
+    }
+
+    fn failed_event(&self, content: Bytes) -> Result<EventIn, Memory>
+        ensures { IfOk result (λ event. event ≡ own_event failed_name content None None) }
+    {
+        Ok(EventIn {
+            name: Bytes::from_slice(self.alloc, FAILED)?,
+            content,
+            id: None,
+            ts: None,
+            user: None,
+            v: None,
+        })
     }
 
     // An event of the server's own, which cancels nothing.
@@ -241,4 +259,23 @@ impl Parts {
         let number = self.add_event(event)?;
         self.follow(number, &event.name, Discovery::AtTheEnd, steps)
     }
+}
+
+// An event's text begins with its name.
+fn is_of_failure(event: &[u8]) -> bool
+    ensures { result ≡ is_of_failure event.now }
+{
+    event.starts_with(FAILED_BEGUN)
+}
+
+/// The id of a run. A number past 2^62 - 1 counts as want of memory.
+pub(crate) fn id_of(run: &Run) -> Result<[u8; 36], Memory>
+    requires dated { run.now.moment ≤ last_moment }
+    ensures { IfOk result (λ id. id ≡ run_text run.now.moment run.now.number) }
+{
+    let number = run.number();
+    if number > MOST_RUNS {
+        return Err(Memory);
+    }
+    Ok(run_id(run.moment(), number))
 }

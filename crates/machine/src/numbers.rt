@@ -1,6 +1,6 @@
 ghost use Rattle.std.specs.Prelude.{◌≡◌, [], OnOk};
 ghost use Rattle.std.specs.List.{slice_get};
-ghost use Rattle.machine.specs.Numbers.{AreJoined, IsJoined, IsRest};
+ghost use Rattle.machine.specs.Numbers.{AreJoined, IsJoined, IsJoinedBy, IsRest};
 
 use lists::Memory;
 use std::alloc::Global;
@@ -36,6 +36,15 @@ impl NumberSet {
     {
         self.numbers.insert(number)?;
         Ok(())
+    }
+
+    pub(crate) fn insert_some(&mut self, number: Option<u64>) -> Result<(), Memory>
+        ensures { OnOk result (IsJoinedBy number self.old self.new) }
+    {
+        match number {
+            Some(number) => self.insert(number),
+            None => Ok(()),
+        }
     }
 
     pub(crate) fn insert_all(&mut self, numbers: &[u64]) -> Result<(), Memory>
