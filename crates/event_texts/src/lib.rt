@@ -5,3 +5,6 @@
 mod texts;
 
 pub use texts::{EventText, Texts};
+
+#[cfg(test)]
+mod tests;
