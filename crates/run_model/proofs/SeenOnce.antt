@@ -41,10 +41,10 @@ other-id id e h same =
     cc
 
 -- so many events were numbered, and this holds of each entry
-record Seen (Q : SeenEntry → Type 0) (events : ℕ) (seen : List SeenEntry) : Type 0 where
-  numbered : AllByRecursion (λ (e : SeenEntry). e.number ≤ events) seen
-  each : AllByRecursion Q seen
-  order : ArePairwise StandsApart seen
+pub record Seen (Q : SeenEntry → Type 0) (events : ℕ) (seen : List SeenEntry) : Type 0 where
+  pub numbered : AllByRecursion (λ (e : SeenEntry). e.number ≤ events) seen
+  pub each : AllByRecursion Q seen
+  pub order : ArePairwise StandsApart seen
 
 module _ (Q : SeenEntry → Type 0) (events : ℕ) (seen : List SeenEntry) (h : Seen Q events seen) where
   seen-more : Seen Q (events + 1) seen
@@ -91,7 +91,7 @@ module _ (Q : SeenEntry → Type 0) (events : ℕ) (seen : List SeenEntry) (h : 
 -- what holds of the moment makes what holds of each entry that is noted then
 module _ (M : ℕ → Type 0) (Q : SeenEntry → Type 0)
     (noted : (id : List ℕ) (number m : ℕ) → M m → Q (record { id = id; number = number; moment = m })) where
-  abbrev Remembers : State → Type 0
+  abbrev pub Remembers : State → Type 0
   Remembers s = M s.moment × Seen Q s.events s.seen
 
   remembers-accepted : (event : EventIn) (id : Option (List ℕ)) (s : State) → Remembers s
@@ -158,16 +158,16 @@ module _ (t : ℕ) where
   IsBy e = e.moment ≤ t
 
   -- at the moment
-  abbrev IsNow : SeenEntry → Type 0
+  abbrev pub IsNow : SeenEntry → Type 0
   IsNow e = (e.moment ≤ t) × (is_remembered t e ≡ true)
 
-  abbrev IsAt : ℕ → Type 0
+  abbrev pub IsAt : ℕ → Type 0
   IsAt m = m ≡ t
 
   by-noted : (id : List ℕ) (number m : ℕ) → m ≤ t → IsBy (record { id = id; number = number; moment = m })
   by-noted id number m h = h
 
-  now-noted : (id : List ℕ) (number m : ℕ) → IsAt m → IsNow (record { id = id; number = number; moment = m })
+  pub now-noted : (id : List ℕ) (number m : ℕ) → IsAt m → IsNow (record { id = id; number = number; moment = m })
   now-noted id number m h = (omega (arith, h), grind (arith, h))
 
   by-steps : KeepsSteps t (λ input. Unit {0}) (λ is s. Remembers (λ m. m ≤ t) IsBy by-noted s)
@@ -218,10 +218,10 @@ now-step s input h =
       },
     ))
 
-abbrev HasSeen : State → Type 0
+abbrev pub HasSeen : State → Type 0
 HasSeen s = Remembers (λ m. m ≡ s.moment) (IsNow s.moment) (now-noted s.moment) s
 
-seen-step : (s : State) (input : Input) → HasSeen s → HasSeen (step s input).state
+pub seen-step : (s : State) (input : Input) → HasSeen s → HasSeen (step s input).state
 seen-step s input h =
     let t : ℕ = moment_at (reading input) s in
     let k = now-step s input h in
@@ -231,10 +231,13 @@ seen-after : (inputs : List Input) (s : State) → HasSeen s → HasSeen (state_
 seen-after [] s h = h
 seen-after (input ∷ inputs) s h = seen-after inputs (step s input).state (seen-step s input h)
 
+pub seen-empty : (limits : Limits) → HasSeen (empty limits)
+seen-empty limits = (refl, record { numbered = tt; each = tt; order = tt })
+
 pub seen-fold : (limits : Limits) (inputs : List Input) → RemembersOnce (fold limits inputs)
 seen-fold limits inputs =
     let s : State = fold limits inputs in
-    let h : HasSeen s = seen-after inputs (empty limits) (refl, record { numbered = tt; each = tt; order = tt }) in
+    let h : HasSeen s = seen-after inputs (empty limits) (seen-empty limits) in
     record {
       entries = all-both (λ (e : SeenEntry). e.number ≤ s.events) (IsNow s.moment) (IsSeen s) s.seen
           (λ e low now. record { numbered = low; dated = now.0; remembered = now.1 }) h.1.numbered h.1.each;
@@ -242,7 +245,7 @@ seen-fold limits inputs =
     }
 
 -- the moment is the last input's, where that isn't before
-moment-step : (s : State) (input : Input) → HasSeen s → (step s input).state.moment ≡ moment_at (reading input) s
+pub moment-step : (s : State) (input : Input) → HasSeen s → (step s input).state.moment ≡ moment_at (reading input) s
 moment-step s input h = (now-step s input h).0
 
 moment-after : (inputs : List Input) (s : State) → HasSeen s → s.moment ≤ last_moment
@@ -257,4 +260,4 @@ moment-after (input ∷ inputs) s h low =
 
 pub moment-fold : (limits : Limits) (inputs : List Input) → (fold limits inputs).moment ≤ last_moment
 moment-fold limits inputs =
-    moment-after inputs (empty limits) (refl, record { numbered = tt; each = tt; order = tt }) (omega arith)
+    moment-after inputs (empty limits) (seen-empty limits) (omega arith)

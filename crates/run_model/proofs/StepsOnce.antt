@@ -1,6 +1,6 @@
 -- No name of a run is recorded twice, none that is recorded waits, and no run has too many names: at each change, and so
 -- through each step.
-use Rattle.std.proofs.Common.{◌≡◌, ◌≢◌, ℕ, inl, inr, ◌+◌, ◌≤◌, ◌==◌, Bool, true, false, not, ◌||◌, cond, List, [], ◌∷◌, ◌++◌, find, length, codes, Option, Some, None, is_some, refl, sym, ap, ◌∙◌, subst, nat_le, bytes_eq, arith, eq-eqb}
+use Rattle.std.proofs.Common.{◌≡◌, ◌≢◌, ℕ, inl, inr, ◌+◌, ◌≤◌, ◌==◌, Bool, true, false, not, ◌||◌, cond, List, [], ◌∷◌, find, length, codes, Option, Some, None, is_some, refl, sym, ap, ◌∙◌, subst, nat_le, bytes_eq, arith, eq-eqb}
 use Rattle.std.specs.BTreeMap.{insert_entry, is_at}
 use Rattle.std.specs.BTreeSet.{insert_key}
 use Rattle.std.specs.Cmp.Lexicographic.{slice_cmp}
@@ -47,6 +47,7 @@ use Rattle.run_model.proofs.KeptSteps.{KeepsSteps, kept-step}
 use Rattle.run_model.proofs.Members.{all-in, each-in, in-all, in-found}
 use Rattle.run_model.proofs.Rising.{Rise, keeps-rise, rise-drops, rise-goes, rise-empty, rise-issue, rise-tidied}
 use Rattle.run_model.proofs.SettlingLists.{all-append}
+use Rattle.run_model.proofs.TimedCounts.{length-last}
 use Rattle.run_model.proofs.WaitingNames.{AreSorted, Names, found-inserted, found-removed, sorted-inserted, sorted-removed, under}
 
 -- ## How many names
@@ -114,10 +115,6 @@ entry-more name kind (p ∷ ps) = by_order (slice_cmp nat_cmp name p.0) (entry-m
     by_order Equal n = omega arith
     by_order Greater n = omega (arith, n)
 
-last-one : {X : Type 0} (xs : List X) (x : X) → length (xs ++ x ∷ []) ≡ length xs + 1
-last-one [] x = omega arith
-last-one (y ∷ ys) x = let n = last-one ys x in omega (arith, n)
-
 -- ## The steps of a run
 
 abbrev HasRoom : RunSteps → Type 0
@@ -178,7 +175,7 @@ orderly-recorded name result t new room h = record {
 room-pending : (name result : List ℕ) (t : RunSteps) → is_pending name t ≡ true → HasRoom t
     → HasRoom (record_step name result t)
 room-pending name result t waits room =
-    let a = last-one t.recorded (record { hash = name; result = result }) in
+    let a = length-last t.recorded (record { hash = name; result = result }) in
     let b = key-most (is_at (slice_cmp nat_cmp name)) t.planned in
     let c = entry-one (is_at (slice_cmp nat_cmp name)) t.pending waits in
     omega (arith, a, b, c, room)
@@ -194,12 +191,12 @@ room-new name result t new room =
         → HasRoom (record_step name result t)
     by_tests true b e k = absurd k
     by_tests false true e k =
-        let x = last-one t.recorded (record { hash = name; result = result }) in
+        let x = length-last t.recorded (record { hash = name; result = result }) in
         let y = key-one (is_at (slice_cmp nat_cmp name)) t.planned e in
         let z = entry-most (is_at (slice_cmp nat_cmp name)) t.pending in
         omega (arith, x, y, z, room)
     by_tests false false e k =
-        let x = last-one t.recorded (record { hash = name; result = result }) in
+        let x = length-last t.recorded (record { hash = name; result = result }) in
         let y = key-most (is_at (slice_cmp nat_cmp name)) t.planned in
         let z = entry-most (is_at (slice_cmp nat_cmp name)) t.pending in
         let w = has-room (record_step name result t) t k in

@@ -32,7 +32,7 @@ use Rattle.event_keys.specs.Buckets.{bucket_of}
 use Rattle.event_keys.specs.Cells.{cells_of, start_of}
 use Rattle.run_model.specs.Advance.{due_of, timed}
 use Rattle.run_model.specs.Ends.{first_text, is_invocation_of}
-use Rattle.run_model.specs.Making.{first_of, is_item_of, score_of, step_target, unless}
+use Rattle.run_model.specs.Making.{first_of, has_discovery, is_item_of, score_of, step_target, unless}
 use Rattle.run_model.specs.Recording.{is_pending_in}
 use Rattle.run_model.specs.Settle.{next_issued}
 use Rattle.run_model.specs.State.{State, Run, Issue, EventText, Sleep, Waiting, Invocation, EndedRun, function_at, has_open_call, is_in, is_named, is_version_named, issue_entries, live_run, text_of}
@@ -236,9 +236,13 @@ abbrev pub HasCells : State → Run → FunctionEntry → Type 0
 HasCells s r f =
     (r.cells ≡ cells_of f.function (first_text r s)) × (r.start ≡ start_of f.function (first_text r s))
 
-pub record IsFixed (s : State) : Type 0 where
+-- each run and each window names an event
+pub record HasEvents (s : State) : Type 0 where
   pub runs : AllByRecursion (λ (r : Run). 0 < length r.events) (all_runs s)
   pub windows : AllByRecursion (λ w. 0 < length (windows.events_of w)) s.windows
+
+pub record IsFixed (s : State) : Type 0 where
+  pub named : HasEvents s
   pub cells : AllByRecursion (λ (r : Run). IfSome (function_at r.version s) (HasCells s r)) (all_runs s)
 
 -- ## Numbers of one count
@@ -368,6 +372,34 @@ pub record IsSound (s : State) : Type 0 where
   pub invocations : Invokes s
   pub unique : AreUnique s
   pub windows : HasWindows s
+  pub limits : KeepLimits [] (issue_entries s)
+  pub settled : next_issued s ≡ None
+
+-- ## What is proved of them
+
+-- Of each state that is reached, whatever inputs there were, this is a law: the third, fourth, sixth, eighth, tenth,
+-- thirteenth, nineteenth and twentieth condition, and parts of others: numbers that rise, runs that end once, wanted
+-- runs, events of runs and windows, and remembered ids. The ninth is one where functions are in range and fewer than
+-- 2^64 entries were numbered; that functions have ids of their own is one where no registration names an id twice.
+pub record IsReached (s : State) : Type 0 where
+  pub versions : RiseTo s.versions (map version_of s.functions)
+  pub texts : RiseTo s.events (map (λ (e : EventText). e.number) s.texts)
+  pub live : RiseTo s.runs (numbers_of s.live)
+  pub issues : RiseTo s.calls (map (λ (i : Issue). i.call) s.issues)
+  pub sleeps : RiseTo s.entries (map (λ (e : Sleep). e.number) s.sleeps)
+  pub waits : RiseTo s.entries (map (λ (e : Waiting). e.wait.number) s.waits)
+  pub invocations : RiseTo s.entries (map (λ (e : Invocation). e.number) s.invocations)
+  pub rules : RiseTo s.entries (map (λ (e : Rule). e.number) s.rules)
+  pub recorded : AllByRecursion RecordsOnce s.live
+  pub pending : AwaitsOnce s
+  pub wakes : Wakes s
+  pub room : AllByRecursion (λ (r : Run). names r.steps ≤ most_names) (all_runs s)
+  pub wanted : AllByRecursion (λ (r : Run). r.wanted ≡ true → has_discovery s r.number ≡ true) s.live
+  pub going : AllByRecursion (λ r. can_go_on s r ≡ true) s.live
+  pub dated : IsDated s
+  pub named : HasEvents s
+  pub of_live : AreOfLive s
+  pub remembered : RemembersOnce s
   pub limits : KeepLimits [] (issue_entries s)
   pub settled : next_issued s ≡ None
 

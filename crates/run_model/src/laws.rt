@@ -7,7 +7,7 @@ ghost use Rattle.kinds.specs.declared.limits.Limits.{Limits};
 ghost use Rattle.run_model.specs.Fit.{RunsStandOnce};
 ghost use Rattle.run_model.specs.Laws.{AreCounted, Follows, HasFunctions, IsFormed, IsNoRegistration};
 ghost use Rattle.run_model.specs.Machine.{fold, step};
-ghost use Rattle.run_model.specs.Sound.{AreApart, AreOfLive, RiseTo};
+ghost use Rattle.run_model.specs.Sound.{AreApart, AreOfLive, IsReached, RiseTo};
 ghost use Rattle.run_model.specs.State.{State, Run, live_run};
 ghost use Rattle.std.specs.List.{AllByRecursion};
 ghost use Rattle.std.specs.Prelude.{ℕ, List, map, ◌≡◌, ◌++◌, Some};
@@ -71,4 +71,9 @@ pub fn versions_rise()
 pub fn current_functions_have_own_ids()
     ensures { (limits : Limits) (inputs : List Input) → AllByRecursion IsFormed inputs →
         AreApart (λ (f : FunctionEntry). f.function.id) (fold limits inputs).functions }
+{}
+
+/// What the other laws say of each state that is reached, in one: whatever inputs there were.
+pub fn what_holds_of_reached_states()
+    ensures { (limits : Limits) (inputs : List Input) → IsReached (fold limits inputs) }
 {}

@@ -26,9 +26,10 @@ pub use items::{
 pub use laws::{
     current_functions_have_own_ids, numbers_are_counted, numbers_stay_counted,
     only_registrations_change_functions, recorded_only_grows, recorded_steps_stay,
-    runs_keep_standing_once, runs_stand_once, versions_rise, what_waits_is_of_live_runs,
+    runs_keep_standing_once, runs_stand_once, versions_rise, what_holds_of_reached_states,
+    what_waits_is_of_live_runs,
 };
-pub use remembering::{ids_are_remembered_once, moments_have_an_end};
+pub use remembering::{ids_are_remembered_once, runs_have_events, what_happened_is_dated};
 pub use settling::{calls_send_all_that_is_recorded, nothing_admissible_is_left};
 pub use waiting::{
     nothing_happens_before_the_next_moment, nothing_is_overdue,
