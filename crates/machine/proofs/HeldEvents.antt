@@ -1,17 +1,15 @@
 -- The parts after an event gets its number, and after the waits that it meets are over.
-use Rattle.std.proofs.Common.{◌≡◌, ℕ, ◌+◌, ◌<◌, ◌≤◌, ◌==◌, Bool, true, false, not, List, [], ◌∷◌, ◌++◌, map, filter, find, Option, Some, None, option_map, refl, sym, ap, ◌∙◌, arith, subst, eqb-true}
+use Rattle.std.proofs.Common.{◌≡◌, ℕ, ◌+◌, ◌<◌, ◌≤◌, Bool, true, false, not, List, [], ◌∷◌, ◌++◌, filter, find, Option, Some, None, option_map, refl, sym, ap, ◌∙◌, arith, subst, eqb-true}
 use Rattle.std.specs.List.{AllByRecursion}
 use Rattle.awaited.specs.Entries.{wait_step}
 use Rattle.awaited.specs.declared.entries.WaitStep.{WaitStep}
 use Rattle.event_texts.specs.Texts.{Texts, text_at, text_or_none}
-use Rattle.kinds.specs.Stores.{woken}
 use Rattle.kinds.specs.declared.event.Event.{Event}
 use Rattle.kinds.specs.declared.event.EventIn.{EventIn}
 use Rattle.kinds.specs.declared.window.Window.{Window}
 use Rattle.lists.proofs.Elements.{all-last, all-weaker}
 use Rattle.lists.proofs.Keyed.{filter_none}
-use Rattle.run_model.specs.Events.{add_event, event_with, follow, has_wait, offer_to_all, wait_of, wake, wake_all, wake_by, wake_found, without_wait}
-use Rattle.run_model.specs.Expressions.{truth_in}
+use Rattle.run_model.specs.Events.{add_event, event_with, follow, has_wait, offer_to_all, wake, wake_all, wake_by, wake_found, without_wait}
 use Rattle.run_model.specs.Recording.{Discovery, data_result, discovered, wake_step}
 use Rattle.run_model.specs.State.{State, Run, EventText, Waiting, text_of}
 use Rattle.run_model.proofs.FitEvents.{fit-accepted}
@@ -170,16 +168,6 @@ pub record IsWaking (d : Discovery) (number : ℕ) (name : List ℕ) (left : Lis
   pub clock : now.admission.moment ≡ first.admission.moment
   pub stays : Stays first.versions.current number (text_of number (state_of first)) (state_of now)
 
-pub waking-starts : (d : Discovery) (number : ℕ) (name : List ℕ) (left : List ℕ) (m : Parts)
-    → left ≡ woken (truth_in (state_of m)) (event_at number name (state_of m)) (map wait_of m.waits)
-    → number ≤ m.counts.events → IsHeld m → IsWaking d number name left m m
-waking-starts d number name left m is given h = record {
-  same = ap (λ ns. wake_all d (data_result (text_or_none (text_of number (state_of m)))) ns (state_of m)) is;
-  held = h;
-  clock = refl;
-  stays = (refl, refl, given);
-}
-
 pub waking-on : (d : Discovery) (number : ℕ) (name : List ℕ) (n : ℕ) (left : List ℕ) (first now new : Parts)
     → IsWaking d number name (n ∷ left) first now
     → Becomes (wake d (data_result (text_or_none (text_at number now.texts.texts))) n (state_of now)) now new
@@ -198,11 +186,6 @@ waking-on d number name n left first now new w b =
           (keeps-stays first.versions.current number found) d result n (find (has_wait n) now.waits) (state_of now) refl
           w.stays);
     }
-
-pub waking-done : (d : Discovery) (number : ℕ) (name : List ℕ) (first now : Parts)
-    → IsWaking d number name [] first now
-    → Becomes (wake_by d (event_at number name (state_of first)) (state_of first)) first now
-waking-done d number name first now w = record { state = w.same; held = w.held; clock = w.clock }
 
 -- ## What follows
 

@@ -1,46 +1,36 @@
 -- What becomes of an event that is offered to a function, and the parts after it opened or joined a window.
-use Rattle.std.proofs.Common.{◌≡◌, ℕ, suc, ◌+◌, ◌<◌, ◌≤◌, ◌==◌, ◌⊎◌, inl, inr, Bool, true, false, not, ◌&&◌, ◌||◌, cond, List, [], ◌∷◌, ◌++◌, take, drop, filter, find, length, get_or, slice_get, Option, Some, None, IfSome, bytes_eq, is_some, option_map, refl, sym, ap, ◌∙◌, arith, subst, drop-cons, add-one, eq-eqb, eqb-true}
+use Rattle.std.proofs.Common.{◌≡◌, ℕ, suc, ◌+◌, ◌<◌, ◌≤◌, ◌==◌, ◌⊎◌, inl, inr, Bool, true, false, not, ◌||◌, cond, List, [], ◌∷◌, ◌++◌, take, drop, find, length, get_or, slice_get, Option, Some, None, is_some, option_map, refl, sym, ap, ◌∙◌, arith, subst, drop-cons, add-one, eq-eqb, eqb-true}
 use Rattle.std.specs.List.{AllByRecursion, list_any}
-use Rattle.std.specs.Ordering.{is_lt}
-use Rattle.std.proofs.lemmas.Bool.{cond-false}
-use Rattle.std.proofs.lemmas.List.{drop_all, take-append-drop}
+use Rattle.std.proofs.lemmas.List.{take-append-drop}
 use Rattle.std.proofs.lemmas.Option.{slice_get_cases}
-use Rattle.awaited.specs.Named.{placed_as}
 use Rattle.awaited.specs.declared.placed.Placed.{Placed}
 use Rattle.awaited.specs.declared.placed.Placed.TheVariants as placed
 use Rattle.functions.specs.declared.entry.FunctionEntry.{FunctionEntry}
 use Rattle.event_keys.specs.Expressions.{key_value}
 use Rattle.kinds.specs.Windows as windows
-use Rattle.kinds.specs.Windows.{IsRule, after_event, has_room, insert_window, is_full, is_of, joined, opened, others, standing}
+use Rattle.kinds.specs.Windows.{IsRule, after_event, has_room, is_full, is_of, joined}
 use Rattle.kinds.specs.declared.event.Event.{Event}
 use Rattle.kinds.specs.declared.window.Window.{Window}
-use Rattle.kinds.specs.declared.window.Window.TheVariants as window
 use Rattle.kinds.specs.declared.window.WindowRule.{WindowRule}
-use Rattle.kinds.specs.declared.window.WindowRule.TheVariants as rule
-use Rattle.lists.proofs.Elements.{all-last, all-weaker}
-use Rattle.lists.proofs.Keyed.{cond_none, filter_none}
-use Rattle.lists.proofs.Texts.{bytes_self, bytes_same}
-use Rattle.lists.specs.Entries as entries
-use Rattle.run_model.specs.Events.{in_window, is_triggered, key_of, offer, offer_by, offer_beside, offer_to, offer_to_all, takes_number, window_of, window_rule_of, with_window}
+use Rattle.lists.proofs.Elements.{all-weaker}
+use Rattle.lists.proofs.Keyed.{cond_none}
+use Rattle.run_model.specs.Events.{in_window, is_triggered, key_of, offer, offer_by, offer_to, offer_to_all, window_of, window_rule_of, with_window}
 use Rattle.run_model.specs.Fit.{AreGiven, IsFit}
 use Rattle.run_model.specs.Laws.{IsIn}
 use Rattle.run_model.specs.Making.{make_run}
-use Rattle.run_model.specs.Sound.{ArePairwise, is_same_window}
 use Rattle.run_model.specs.State.{State, Run, EventText, function_at, is_in, text_of}
 use Rattle.run_model.proofs.FitUses.{new-window, rule-in-range, window-has-room}
-use Rattle.run_model.proofs.FitWindows.{after-given, fit-joined, fit-windows_left, full-keeps, is-before, joined-value, joined-version, opened-version, with_after}
+use Rattle.run_model.proofs.FitWindows.{after-given, fit-joined, fit-windows_left, full-keeps, is-before, with_after}
 use Rattle.run_model.proofs.Kept.{IsFunction, MayJoin, window_after, with_offer}
 use Rattle.run_model.proofs.KeptEvents.{kept-offer}
 use Rattle.run_model.proofs.Members.{in-back, in-found, in-front}
 use Rattle.run_model.proofs.SettlingLists.{found-passes, same-some}
-use Rattle.machine.specs.Held.{AreEventsRight, AreVersionsRight, Becomes, IsEventRight, IsHeld, is_event_named, is_event_used, is_version_in_use}
+use Rattle.machine.specs.Held.{AreEventsRight, AreVersionsRight, Becomes, IsEventRight, IsHeld, is_version_in_use}
 use Rattle.machine.specs.Numbers.{AreJoined, IsJoined, Keeps, has_number}
 use Rattle.machine.specs.Offers.{IsOffer, IsOfferAt, IsOfferRight, IsRuleOf, after_join, events_in, gather_at, joined_at, last_entry, offer_of, placed_at, take_offer, value_by, without_key}
 use Rattle.machine.specs.Offers as offers
 use Rattle.machine.specs.View.{state_of}
 use Rattle.machine.specs.Words.{event_at, make_at}
-use Rattle.machine.specs.declared.counts.Counts.{Counts}
-use Rattle.machine.specs.declared.loose.Loose.{Loose}
 use Rattle.machine.specs.declared.offers.Offer.{Offer}
 use Rattle.machine.specs.declared.offers.Offer.TheVariants as offered
 use Rattle.machine.specs.declared.parts.Parts.{Parts}
@@ -182,10 +172,6 @@ pub record IsOffering (number : ℕ) (name : List ℕ) (left : List FunctionEntr
   pub clock : now.admission.moment ≡ first.admission.moment
   pub stays : Stays first.versions.current number (text_of number (state_of first)) (state_of now)
 
-pub offering-starts : (number : ℕ) (name : List ℕ) (m : Parts) → number ≤ m.counts.events → IsHeld m
-    → IsOffering number name m.versions.current m m
-offering-starts number name m given h = record { same = refl; held = h; clock = refl; stays = (refl, refl, given) }
-
 -- the event is offered as what it is to the function at a place, which is there
 record IsNextOffer (i : ℕ) (e : Event) (fs : List FunctionEntry) (now : Parts) (o : Offer) : Type 0 where
   pub f : FunctionEntry
@@ -241,16 +227,6 @@ module _ (number : ℕ) (name : List ℕ) (i : ℕ) (first now : Parts) (o : Off
             t.stays.2 t.stays);
       }
 
-pub offering-done : (number : ℕ) (name : List ℕ) (i : ℕ) (first now : Parts) → length first.versions.current ≤ i
-    → IsOffering number name (drop i first.versions.current) first now
-    → Becomes (offer_to_all first.versions.current (event_at number name (state_of first)) (state_of first)) first now
-offering-done number name i first now past t = record {
-  state = ap (λ fs. offer_to_all fs (event_at number name (state_of first)) (state_of now))
-      (sym (drop_all i first.versions.current past)) ∙ t.same;
-  held = t.held;
-  clock = t.clock;
-}
-
 -- ## A window of a function that is there
 
 record IsJoining (m : Parts) (version : ℕ) (r : WindowRule) : Type 0 where
@@ -274,7 +250,8 @@ joining m version r h = by_found (function_at version (state_of m)) refl h
           f = f;
           own = e;
           version_is = eqb-true version f.version
-              (found-passes (λ (g : FunctionEntry). version == g.version) (m.versions.current ++ m.versions.retired) f e);
+              (found-passes (λ (g : FunctionEntry). version == g.version)
+              (m.versions.current ++ m.versions.retired) f e);
           base = base.0;
           base_is = base.1;
           rule_is = base.2;
@@ -353,15 +330,16 @@ module _ (m : Parts) (version : ℕ) (r : WindowRule) (value : List ℕ) (event 
       (fit-offer j.f j.base value event (state_of m) (may-join m version r event j given) h.fit)
 
   module _ (touched : List ℕ) (event_there : has_number touched event ≡ true)
-      (events_there : AllByRecursion (λ k. has_number touched k ≡ true) (events_in (find (is_of version value) m.windows)))
+      (events_there : AllByRecursion (λ k. has_number touched k ≡ true)
+      (events_in (find (is_of version value) m.windows)))
       (kept : Keeps m.loose.events touched) where
     same-named : (n : ℕ) → has_number touched n ≡ false
         → list_any (λ w. is_in n (windows.events_of w)) (joined_at version r value event (state_of m)).windows
         ≡ list_any (λ w. is_in n (windows.events_of w)) m.windows
     same-named n left =
         let before = find (is_of version value) m.windows in
-        any-standing (λ w. is_in n (windows.events_of w)) r version value (after_join version r value event (state_of m))
-        m.windows
+        any-standing (λ w. is_in n (windows.events_of w)) r version value
+        (after_join version r value event (state_of m)) m.windows
         (after-version r version value event m.moment (m.counts.entries + 1) before (found-of version value m.windows))
         (after-value r version value event m.moment (m.counts.entries + 1) before (found-of version value m.windows))
         h.fit.windows_fit.apart (before-not-in touched n before events_there left)

@@ -1,9 +1,6 @@
 -- The parts after the events of a request.
 use Rattle.std.proofs.Common.{◌≡◌, ℕ, suc, ◌+◌, ◌<◌, ◌≤◌, ◌==◌, not, cond, List, [], ◌∷◌, ◌++◌, drop, find, length, get_or, Option, Some, None, refl, sym, ap, ◌∙◌, arith, subst, drop-cons, add-one, eq-eqb}
-use Rattle.std.specs.List.{AllByRecursion}
 use Rattle.std.proofs.lemmas.List.{drop_all}
-use Rattle.event_texts.specs.Texts.{text_or_none}
-use Rattle.intake.specs.Events.{event_text}
 use Rattle.kinds.specs.Seen.{note_seen, without_id, has_id}
 use Rattle.kinds.specs.Stores.{cancelled}
 use Rattle.kinds.specs.declared.event.Event.{Event}
@@ -14,18 +11,18 @@ use Rattle.run_model.specs.Events.{add_event, event_with, follow}
 use Rattle.run_model.specs.Expressions.{truth_in}
 use Rattle.run_model.specs.Fit.{IsFit}
 use Rattle.run_model.specs.Recording.{at_once}
-use Rattle.run_model.specs.Requests.{Answering, accept, answer_event, cancel_all, cancel_by, cancel_found, on_event, on_events, remember, repeats}
-use Rattle.run_model.specs.State.{State, Run, EventText, live_run, text_of}
+use Rattle.run_model.specs.Requests.{Answering, accept, answer_event, cancel_all, cancel_by, on_event, on_events, remember, repeats}
+use Rattle.run_model.specs.State.{State, EventText, text_of}
 use Rattle.run_model.proofs.FitCounts.{fit-seen}
 use Rattle.run_model.proofs.FitEvents.{all-noted}
 use Rattle.run_model.proofs.FitUses.{none-next}
 use Rattle.run_model.proofs.KeptEvents.{kept-cancel_all}
 use Rattle.machine.specs.Held.{Becomes, IsHeld}
 use Rattle.machine.specs.View.{state_of}
-use Rattle.machine.specs.Words.{answering, cancel_at, event_at, given_number, note_id, number_for}
+use Rattle.machine.specs.Words.{answering, event_at, given_number, note_id, number_for}
 use Rattle.machine.specs.declared.parts.Parts.{Parts}
 use Rattle.machine.proofs.Found.{found-back}
-use Rattle.machine.proofs.HeldWords.{becomes-same, becomes-then}
+use Rattle.machine.proofs.HeldWords.{becomes-then}
 use Rattle.machine.proofs.Staying.{Stays, keeps-stays, same-event}
 
 -- ## An id is remembered
@@ -35,7 +32,8 @@ pub held-note_id : (m : Parts) (id : List ℕ) (number : ℕ) (seen : List SeenE
     → IsHeld m → Becomes (note_id (Some id) number (state_of m)) m (record m { seen = seen })
 held-note_id m id number seen noted given h =
     let entry : SeenEntry = record { id = id; number = number; moment = m.moment } in
-    subst (λ (es : List SeenEntry). Becomes (note_id (Some id) number (state_of m)) m (record m { seen = es })) (sym noted)
+    subst (λ (es : List SeenEntry). Becomes (note_id (Some id) number (state_of m)) m (record m { seen = es }))
+    (sym noted)
     (record {
       state = refl;
       held = record {
@@ -54,37 +52,11 @@ held-note_id m id number seen noted given h =
 
 -- ## Rules that an event meets
 
-found-at : (found : Option Run) (s : State) → cancel_at at_once found s ≡ cancel_found found s
-found-at None s = refl
-found-at (Some r) s = refl
-
 -- the runs that are left, after some are cancelled
 pub record IsCancelling (event : Event) (left : List ℕ) (first now : Parts) : Type 0 where
   pub same : cancel_all left (state_of now) ≡ cancel_by event (state_of first)
   pub held : IsHeld now
   pub clock : now.admission.moment ≡ first.admission.moment
-
-pub cancelling-starts : (event : Event) (left : List ℕ) (m : Parts)
-    → left ≡ cancelled (truth_in (state_of m)) event m.rules → IsHeld m → IsCancelling event left m m
-cancelling-starts event left m is h = record {
-  same = ap (λ ns. cancel_all ns (state_of m)) is;
-  held = h;
-  clock = refl;
-}
-
-pub cancelling-on : (event : Event) (n : ℕ) (left : List ℕ) (first now new : Parts)
-    → IsCancelling event (n ∷ left) first now
-    → Becomes (cancel_at at_once (live_run n (state_of now)) (state_of now)) now new
-    → IsCancelling event left first new
-cancelling-on event n left first now new w b = record {
-  same = ap (cancel_all left) (b.state ∙ found-at (live_run n (state_of now)) (state_of now)) ∙ w.same;
-  held = b.held;
-  clock = b.clock ∙ w.clock;
-}
-
-pub cancelling-done : (event : Event) (first now : Parts) → IsCancelling event [] first now
-    → Becomes (cancel_by event (state_of first)) first now
-cancelling-done event first now w = record { state = w.same; held = w.held; clock = w.clock }
 
 -- ## An event that is new
 
@@ -192,19 +164,6 @@ module _ (event : EventIn) (m one : Parts) (number : ℕ) (is : number ≡ m.cou
           (subst (λ x. Becomes (follow at_once x (state_of three)) three new)
           (same-event number event.name (text_of number t) (state_of three) stands.1 ∙ its-event) b)
 
--- ## One event, new or not
-
-pub repeated : (event : EventIn) (number : ℕ) (m : Parts) → Some number ≡ repeats event (state_of m) → IsHeld m
-    → Becomes (on_event event (answering (state_of m))).state m m
-repeated event number m is h =
-    subst (λ o. Becomes (answer_event event o (answering (state_of m))).state m m) is (becomes-same m h)
-
-pub taken : (event : EventIn) (m new : Parts) → None ≡ repeats event (state_of m)
-    → Becomes (accept (event_with event (state_of m)) event.id (state_of m)) m new
-    → Becomes (on_event event (answering (state_of m))).state m new
-taken event m new is b =
-    subst (λ o. Becomes (answer_event event o (answering (state_of m))).state m new) is b
-
 -- ## All events
 
 one-by : (event : EventIn) (s : State) (numbers : List ℕ) (found : Option ℕ)
@@ -222,9 +181,6 @@ pub record IsTaking (events left : List EventIn) (numbers : List ℕ) (first now
       ≡ on_events events (answering (state_of first))
   pub held : IsHeld now
   pub clock : now.admission.moment ≡ first.admission.moment
-
-pub taking-starts : (events : List EventIn) (m : Parts) → IsHeld m → IsTaking events events [] m m
-taking-starts events m h = record { same = refl; held = h; clock = refl }
 
 pub taking-on : (events : List EventIn) (i : ℕ) (event : EventIn) (numbers : List ℕ) (number : ℕ)
     (first now new : Parts) → i < length events → event ≡ get_or events i event

@@ -1,6 +1,5 @@
 -- What is matched with one fresh event, read once, is what that event of the state meets, and no bucket hides it.
-use Rattle.std.proofs.Common.{◌≡◌, ℕ, Bool, true, false, ◌&&◌, not, List, [], ◌∷◌, map, filter, find, Option, Some, None, IfSome, bytes_eq, is_some, option_map, refl, sym, ap, ◌∙◌, subst}
-use Rattle.std.specs.List.{AllByRecursion}
+use Rattle.std.proofs.Common.{◌≡◌, ℕ, Bool, true, false, ◌&&◌, not, List, [], map, Option, Some, None, IfSome, bytes_eq, is_some, option_map, refl, ap, ◌∙◌}
 use Rattle.std.proofs.lemmas.List.Elements.{filter_agree}
 use Rattle.event_keys.proofs.MatchLemmas.{none_hides}
 use Rattle.event_keys.specs.Buckets.{bucket_of}
@@ -15,9 +14,9 @@ use Rattle.lists.proofs.Elements.{all-weaker}
 use Rattle.lists.specs.Entries.{in_order}
 use Rattle.run_model.proofs.Members.{all-map}
 use Rattle.run_model.specs.Events.{wait_of}
-use Rattle.run_model.specs.Expressions.{texts_in, truth_in}
+use Rattle.run_model.specs.Expressions.{truth_in}
 use Rattle.run_model.specs.Fit.{IsBucketOf, IsFit, IsRuleFit, IsWaitFit}
-use Rattle.run_model.specs.State.{State, EventText, Waiting, text_of}
+use Rattle.run_model.specs.State.{State, EventText, text_of}
 use Rattle.machine.specs.Words.{event_at}
 
 -- the texts as they are looked up
@@ -93,8 +92,8 @@ unmet : (named met inside : Bool) → met ≡ false → ((named && met) && true 
 unmet true met inside e = ap (λ b. (b && true) && inside) e
 unmet false met inside e = refl
 
-no-text : (texts : Texts) (fresh : List ℕ) (event : Event) (named : Bool) (n : ℕ) (c : Option (List ℕ)) (bucket : Option Bucket)
-    → texts n ≡ None
+no-text : (texts : Texts) (fresh : List ℕ) (event : Event) (named : Bool) (n : ℕ) (c : Option (List ℕ))
+    (bucket : Option Bucket) → texts n ≡ None
     → ((named && is_true_of (truth_with texts fresh) n event c) && is_some c
     && not (is_in_bucket (values_with fresh) event bucket)) ≡ false
 unfolding truth_with

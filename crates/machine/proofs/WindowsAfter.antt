@@ -1,11 +1,11 @@
 -- Windows after an event: by a rule without its key, and which of them name what.
-use Rattle.std.proofs.Common.{◌≡◌, ℕ, ◌+◌, ◌==◌, Bool, true, false, not, ◌&&◌, ◌||◌, cond, List, [], ◌∷◌, ◌++◌, filter, find, Option, Some, None, IfSome, refl, sym, ap, ◌∙◌, subst, eqb-true}
+use Rattle.std.proofs.Common.{◌≡◌, ℕ, ◌==◌, Bool, true, false, not, ◌&&◌, ◌||◌, cond, List, [], ◌∷◌, find, Option, Some, None, IfSome, refl, sym, ap, ◌∙◌, subst, eqb-true}
 use Rattle.std.specs.List.{AllByRecursion, list_any}
 use Rattle.std.specs.Ordering.{is_lt}
 use Rattle.awaited.specs.declared.placed.Placed.TheVariants as placed
 use Rattle.functions.specs.declared.entry.FunctionEntry.{FunctionEntry}
 use Rattle.kinds.specs.Windows as windows
-use Rattle.kinds.specs.Windows.{IsRule, after_event, has_room, insert_window, is_full, is_of, joined, opened, others, standing}
+use Rattle.kinds.specs.Windows.{IsRule, after_event, has_room, insert_window, is_full, is_of, opened, others, standing}
 use Rattle.kinds.specs.declared.window.Window.{Window}
 use Rattle.kinds.specs.declared.window.Window.TheVariants as window
 use Rattle.kinds.specs.declared.window.WindowRule.{WindowRule}
@@ -125,7 +125,8 @@ pub after-version : (r : WindowRule) (version : ℕ) (value : List ℕ) (event t
     → windows.version_of (after_event r version value event t number before) ≡ version
 after-version r version value event t number None h = opened-version r version value event t number
 after-version r version value event t number (Some w) h =
-    joined-version r event t w ∙ sym (eqb-true version (windows.version_of w) (and-first (version == windows.version_of w) _ h))
+    joined-version r event t w
+    ∙ sym (eqb-true version (windows.version_of w) (and-first (version == windows.version_of w) _ h))
 
 opened-value : (r : WindowRule) (version : ℕ) (value : List ℕ) (event t number : ℕ)
     → windows.value_of (opened r version value event t number) ≡ value
@@ -183,8 +184,8 @@ pub before-not-in : (touched : List ℕ) (n : ℕ) (before : Option Window)
 before-not-in touched n None all left = tt
 before-not-in touched n (Some w) all left = not-in touched n (windows.events_of w) all left
 
-pub other-version : (touched : List ℕ) (version v : ℕ) → has_number touched version ≡ true → has_number touched v ≡ false
-    → (v == version) ≡ false
+pub other-version : (touched : List ℕ) (version v : ℕ) → has_number touched version ≡ true
+    → has_number touched v ≡ false → (v == version) ≡ false
 other-version touched version v there left = by_test (v == version) refl
   where
     by_test : (b : Bool) → (v == version) ≡ b → b ≡ false

@@ -1,6 +1,5 @@
 -- What becomes of an event that is offered to a function.
 use Rattle.std.specs.Prelude.{ℕ, ◌≡◌, ◌∷◌, ◌+◌, ◌&&◌, Bool, true, false, List, [], Option, Some, None, bytes_eq}
-use Rattle.std.specs.List.{list_any}
 use Rattle.std.specs.Option.{option_map}
 use Rattle.event_keys.specs.Expressions.{holds_over, key_value}
 use Rattle.functions.specs.declared.entry.FunctionEntry.{FunctionEntry}
@@ -14,7 +13,6 @@ use Rattle.kinds.specs.declared.window.Window.{Window}
 use Rattle.kinds.specs.declared.window.WindowRule.{WindowRule}
 use Rattle.kinds.specs.declared.window.WindowRule.TheVariants as rule
 use Rattle.run_model.specs.Events.{in_window, is_triggered, key_of, window_of, window_rule_of, with_window}
-use Rattle.run_model.specs.Making.{make_run}
 use Rattle.run_model.specs.State.{State, function_at}
 use Rattle.machine.specs.Words.{make_at}
 use Rattle.machine.specs.declared.offers.Offer.{Offer}
