@@ -66,20 +66,20 @@ invocation_run e = e.run
 abbrev pub invocation_hash : Invocation → List ℕ
 invocation_hash e = e.hash
 
-abbrev Sorted : Run → Type 0
+abbrev pub Sorted : Run → Type 0
 Sorted r = AreSorted r.steps.pending
 
 -- a name of an invocation waits for it, or is over
-abbrev Told : List ℕ → Run → Type 0
+abbrev pub Told : List ℕ → Run → Type 0
 Told hash r = (pending_of hash r.steps ≡ Some pending.Invocation)
     ⊎ ((is_recorded hash r.steps ≡ true) × (pending_of hash r.steps ≡ None))
 
 -- so it is with the name of an invoked run's parent, where that has not ended
-abbrev HasTold : ℕ → List Run → Option Parent → Type 0
+abbrev pub HasTold : ℕ → List Run → Option Parent → Type 0
 HasTold runs live parent =
     IfSome parent (λ p. (p.run ≤ runs) × IfSome (find (λ (q : Run). p.run == q.number) live) (Told p.hash))
 
-abbrev IsTold : ℕ → List Run → Run → Type 0
+abbrev pub IsTold : ℕ → List Run → Run → Type 0
 IsTold runs live r = HasTold runs live r.parent
 
 pub record Stand (runs : ℕ) (live : List Run) (sleeps : List Sleep) (waits : List Waiting)
@@ -167,7 +167,7 @@ stand-quiet number f s stays quiet same h = record {
 
 -- ## A name comes
 
-abbrev pends : Pending → List ℕ → Run → Run
+abbrev pub pends : Pending → List ℕ → Run → Run
 pends kind name r = with_steps (pend_step name kind r.steps) r
 
 -- what is new was neither recorded nor pending
@@ -295,7 +295,7 @@ stand-wait r name event t given s live new h = record {
 }
 
 -- with the invocation that is to come
-stand-pended : (r : Run) (name : List ℕ) (e : Invocation) (s : State) → IsLive r s
+pub stand-pended : (r : Run) (name : List ℕ) (e : Invocation) (s : State) → IsLive r s
     → Adds (note_pending name pending.Invocation r.steps) → e.run ≡ r.number → e.hash ≡ name → Stands s
     → Stand s.runs (changed r.number (pends pending.Invocation name) s.live) s.sleeps s.waits
     (s.invocations ++ e ∷ [])
@@ -412,7 +412,7 @@ stand-invoked f r name payload t s live given new h =
 
 -- ## A step is recorded
 
-found-more : (p : StepEntry → Bool) (es : List StepEntry) (e : StepEntry) → is_some (find p es) ≡ true
+pub found-more : (p : StepEntry → Bool) (es : List StepEntry) (e : StepEntry) → is_some (find p es) ≡ true
     → is_some (find p (es ++ e ∷ [])) ≡ true
 found-more p [] e h = absurd (cc)
 found-more p (x ∷ es) e h =
@@ -420,7 +420,7 @@ found-more p (x ∷ es) e h =
     → is_some (cond b (Some x) (find p (es ++ e ∷ []))) ≡ true)
     [ true ↦ λ k. refl | false ↦ λ k. found-more p es e k ]) h
 
-found-some : (p : StepEntry → Bool) (es : List StepEntry) (e : StepEntry) → p e ≡ true
+pub found-some : (p : StepEntry → Bool) (es : List StepEntry) (e : StepEntry) → p e ≡ true
     → is_some (find p (es ++ e ∷ [])) ≡ true
 found-some p [] e h = rw h refl
 found-some p (x ∷ es) e h =
@@ -644,7 +644,7 @@ stand-told p result s waits h = record {
 
 ending-stand : (r : Run) (status : RunStatus) (s : State) → IsLive r s → Stands s → Ending Stands r status s
 ending-stand r status s live h = record {
-  ends = stand-ended r status s h;
+  ends = λ untold. stand-ended r status s h;
   tells = λ p q result parent there waits.
       stand-told p result (end_run r status s)
       (told-some p q s.runs (end_run r status s).live
@@ -737,7 +737,7 @@ stand-tidied : (s : State) → Stands s → Stands (tidied s)
 unfolding tidied
 stand-tidied s h = h
 
-awaits-steps : (bound : ℕ) → KeepsSteps bound (λ input. Unit {0}) (λ is s. Awaits s)
+pub awaits-steps : (bound : ℕ) → KeepsSteps bound (λ input. Unit {0}) (λ is s. Awaits s)
 awaits-steps bound = record {
   calls = dropping (λ is s. Awaits s) awaits-drops;
   counts = λ s h. h;
@@ -762,8 +762,8 @@ awaits-after : (inputs : List Input) (s : State) → Awaits s → Awaits (state_
 awaits-after [] s h = h
 awaits-after (input ∷ inputs) s h = awaits-after inputs (step s input).state (awaits-step s input h)
 
-pub awaits-fold : (limits : Limits) (inputs : List Input) → Awaits (fold limits inputs)
-awaits-fold limits inputs = awaits-after inputs (empty limits) (
+pub awaits-empty : (limits : Limits) → Awaits (empty limits)
+awaits-empty limits = (
   rise-empty limits,
   record {
     sorted = tt;
@@ -773,3 +773,6 @@ awaits-fold limits inputs = awaits-after inputs (empty limits) (
     told = tt;
   },
 )
+
+pub awaits-fold : (limits : Limits) (inputs : List Input) → Awaits (fold limits inputs)
+awaits-fold limits inputs = awaits-after inputs (empty limits) (awaits-empty limits)

@@ -93,7 +93,7 @@ in-own i (k ∷ items) =
     elim (nat_lt i.number k.number) as (λ b. IsIn i (cond b (i ∷ k ∷ items) (k ∷ insert_item i items)))
     [ true ↦ inl refl | false ↦ inr (in-own i items) ]
 
-in-map : {X Y : Type 0} (f : X → Y) (x : X) (xs : List X) → IsIn x xs → IsIn (f x) (map f xs)
+pub in-map : {X Y : Type 0} (f : X → Y) (x : X) (xs : List X) → IsIn x xs → IsIn (f x) (map f xs)
 in-map f x [] there = absurd there
 in-map f x (y ∷ ys) (inl same) = inl (ap f same)
 in-map f x (y ∷ ys) (inr there) = inr (in-map f x ys there)
@@ -456,7 +456,7 @@ go-ended_with i is r status s live h =
 ending-go : (i : Item) (is : List Item) (r : Run) (status : RunStatus) (s : State) → live_run i.run s ≡ Some r
     → GoOn (i ∷ is) s → Ending (GoOn is) r status s
 ending-go i is r status s live h = record {
-  ends = go-ended_with i is r status s live h;
+  ends = λ untold. go-ended_with i is r status s live h;
   tells = λ p q result parent there waits.
       go-recorded is p.run p.hash result (without_invocation_of p (end_run r status s))
       (go-ended_with i is r status s live h);

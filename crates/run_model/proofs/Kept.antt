@@ -109,9 +109,14 @@ pub record Changes (P : State → Type 0) : Type 0 where
   -- a run ends
   pub ends : (r : Run) (status : RunStatus) (s : State) → IsLive r s → P s → P (end_run r status s)
 
+-- the parent of a run that ends doesn't wait for it
+abbrev pub IsUntold : Run → RunStatus → State → Type 0
+IsUntold r status s = (p : Parent) (q : Run) → r.parent ≡ Some p → live_run p.run (end_run r status s) ≡ Some q
+    → is_pending p.hash q.steps ≡ false
+
 -- A run ends, and with it what its parent records, where that waits for it.
 pub record Ending (P : State → Type 0) (r : Run) (status : RunStatus) (s : State) : Type 0 where
-  pub ends : P (end_run r status s)
+  pub ends : IsUntold r status s → P (end_run r status s)
   pub tells : (p : Parent) (q : Run) (result : List ℕ) → r.parent ≡ Some p
       → live_run p.run (end_run r status s) ≡ Some q → is_pending p.hash q.steps ≡ true
       → P (record_result p.run p.hash result (without_invocation_of p (end_run r status s)))
@@ -312,7 +317,7 @@ freely P changes keeps = record {
   waits = changes.waits;
   invokes = kept-invoked P changes;
   ends = λ r status s live h. record {
-    ends = changes.ends r status s live h;
+    ends = λ untold. changes.ends r status s live h;
     tells = λ p q result parent there waits.
         keeps.records p.run p.hash result (without_invocation_of p (end_run r status s))
         (keeps.invocations_go (λ i. not (is_invocation_of p i)) (end_run r status s)
@@ -333,7 +338,7 @@ freely P changes keeps = record {
 pub ending-both : (P Q : State → Type 0) (r : Run) (status : RunStatus) (s : State) → Ending P r status s
     → Ending Q r status s → Ending (λ s. P s × Q s) r status s
 ending-both P Q r status s p q = record {
-  ends = (p.ends, q.ends);
+  ends = λ untold. (p.ends untold, q.ends untold);
   tells = λ o other result parent live waits.
       (p.tells o other result parent live waits, q.tells o other result parent live waits);
 }

@@ -1,5 +1,5 @@
 -- What an event does, how a run ends, and the events of a request keep what each change keeps.
-use Rattle.std.proofs.Common.{◌≡◌, ℕ, ◌+◌, ◌≤◌, Bool, true, false, List, [], ◌∷◌, map, find, Option, Some, None, IfSome, refl, arith}
+use Rattle.std.proofs.Common.{◌≡◌, ℕ, ◌+◌, ◌≤◌, Bool, true, false, List, [], ◌∷◌, map, find, Option, Some, None, IfSome, refl, sym, ◌∙◌, subst, arith}
 use Rattle.std.specs.List.{AllByRecursion}
 use Rattle.std.specs.Option.{option_and_then}
 use Rattle.kinds.specs.RunSteps.{is_pending}
@@ -23,8 +23,9 @@ use Rattle.run_model.specs.Making.{make_run}
 use Rattle.run_model.specs.Recording.{Discovery, at_once, at_the_end, data_result, error_result, record_result}
 use Rattle.run_model.specs.Requests.{Answering, accept, answer_event, cancel_all, cancel_by, cancel_found, on_event, on_events, remember, repeats}
 use Rattle.run_model.specs.State.{State, Run, Waiting, live_run}
-use Rattle.run_model.proofs.Kept.{Ending, IsFunction, IsLive, Keeps, MayJoin, freely, kept-discovered, own-number, window_after, with_offer}
+use Rattle.run_model.proofs.Kept.{Ending, IsFunction, IsLive, IsUntold, Keeps, MayJoin, freely, kept-discovered, own-number, window_after, with_offer}
 use Rattle.run_model.proofs.Members.{all-front, in-found}
+use Rattle.run_model.proofs.SettlingLists.{same-some}
 
 module _ (P : State → Type 0) (keeps : Keeps P) where
   -- ## Waits
@@ -81,6 +82,30 @@ module _ (P : State → Type 0) (keeps : Keeps P) where
         | true ↦ kept-offer_to f (window_rule_of f.function) event s there refl given h
         | false ↦ h
       ]
+
+-- ## Parents that don't wait
+
+untold-none : (r : Run) (status : RunStatus) (s : State) → r.parent ≡ None → IsUntold r status s
+untold-none r status s none p q e k = let no : None ≡ Some p = sym none ∙ e in absurd (cc)
+
+same-parent : (r : Run) (p o : Parent) → r.parent ≡ Some p → r.parent ≡ Some o → p ≡ o
+same-parent r p o e k = same-some p o (sym e ∙ k)
+
+untold-gone : (r : Run) (status : RunStatus) (s : State) (p : Parent) → r.parent ≡ Some p
+    → live_run p.run (end_run r status s) ≡ None → IsUntold r status s
+untold-gone r status s p parent none o q e k =
+    let found : live_run p.run (end_run r status s) ≡ Some q =
+    subst (λ x. live_run x.run (end_run r status s) ≡ Some q) (sym (same-parent r p o parent e)) k in
+    let no : None ≡ Some q = sym none ∙ found in absurd (cc)
+
+untold-one : (r : Run) (status : RunStatus) (s : State) (p : Parent) (q : Run) → r.parent ≡ Some p
+    → live_run p.run (end_run r status s) ≡ Some q → is_pending p.hash q.steps ≡ false → IsUntold r status s
+untold-one r status s p q parent live waits o x e k =
+    let same : p ≡ o = same-parent r p o parent e in
+    let found : live_run p.run (end_run r status s) ≡ Some x =
+    subst (λ y. live_run y.run (end_run r status s) ≡ Some x) (sym same) k in
+    subst (λ (y : Parent). is_pending y.hash x.steps ≡ false) same
+    (subst (λ (y : Run). is_pending p.hash y.steps ≡ false) (same-some q x (sym live ∙ found)) waits)
 
 -- ## Functions stay, and numbers of events
 
@@ -144,18 +169,19 @@ module _ (P : State → Type 0) (keeps : Keeps P) where
   kept-record_at_parent d p r q status result true s parent live waits h =
       kept-discovered P keeps d (record_result p.run p.hash result (without_invocation_of p (end_run r status s)))
       (h.tells p q result parent live waits)
-  kept-record_at_parent d p r q status result false s parent live waits h = h.ends
+  kept-record_at_parent d p r q status result false s parent live waits h =
+      h.ends (untold-one r status s p q parent live waits)
 
   pub kept-tell : (d : Discovery) (p : Parent) (r : Run) (status : RunStatus) (result : List ℕ)
       (found : Option Run) (s : State) → r.parent ≡ Some p → live_run p.run (end_run r status s) ≡ found
       → Ending P r status s → P (tell d p result found (end_run r status s))
-  kept-tell d p r status result None s parent e h = h.ends
+  kept-tell d p r status result None s parent e h = h.ends (untold-gone r status s p parent e)
   kept-tell d p r status result (Some q) s parent e h =
       kept-record_at_parent d p r q status result (is_pending p.hash q.steps) s parent e refl h
 
   kept-told : (d : Discovery) (p : Option Parent) (r : Run) (status : RunStatus) (result : List ℕ) (s : State)
       → r.parent ≡ p → Ending P r status s → P (tell_parent d p result (end_run r status s))
-  kept-told d None r status result s parent h = h.ends
+  kept-told d None r status result s parent h = h.ends (untold-none r status s parent)
   kept-told d (Some p) r status result s parent h =
       kept-tell d p r status result (live_run p.run (end_run r status s)) s parent refl h
 

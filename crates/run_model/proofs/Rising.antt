@@ -265,7 +265,7 @@ module _ (entries : ℕ) (a : List Sleep) (b : List Waiting) (c : List Invocatio
     rules_rise = rise-filter rule_number entries test d h.rules_rise;
   }
 
-rise-ended : (r : Run) (status : RunStatus) (s : State) → Rise s → Rise (end_run r status s)
+pub rise-ended : (r : Run) (status : RunStatus) (s : State) → Rise s → Rise (end_run r status s)
 rise-ended r status s h = (
   record {
     sleeps_rise = rise-filter sleep_number s.entries (λ (e : Sleep). not (r.number == e.run)) s.sleeps

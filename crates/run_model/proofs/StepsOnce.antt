@@ -45,7 +45,7 @@ use Rattle.run_model.proofs.Kept.{Adds, Ending, IsLive, Keeps, kept-make_run, ru
 use Rattle.run_model.proofs.KeptReplies.{dropping}
 use Rattle.run_model.proofs.KeptSteps.{KeepsSteps, kept-step}
 use Rattle.run_model.proofs.Members.{all-in, each-in, in-all, in-found}
-use Rattle.run_model.proofs.Rising.{Rise, keeps-rise, rise-drops, rise-goes, rise-empty, rise-issue, rise-tidied}
+use Rattle.run_model.proofs.Rising.{Rise, keeps-rise, rise-drops, rise-ended, rise-goes, rise-empty, rise-issue, rise-tidied}
 use Rattle.run_model.proofs.SettlingLists.{all-append}
 use Rattle.run_model.proofs.TimedCounts.{length-last}
 use Rattle.run_model.proofs.WaitingNames.{AreSorted, Names, found-inserted, found-removed, sorted-inserted, sorted-removed, under}
@@ -373,11 +373,11 @@ ending-order r status s live h =
     let rises : Ending Rise r status s = keeps-rise.ends r status s live h.0 in
     let ended : InOrder (end_run r status s) = order-ended r status s live h.1 in
     record {
-      ends = (rises.ends, ended);
+      ends = λ untold. (rise-ended r status s h.0, ended);
       tells = λ p q result parent there waits. (
         rises.tells p q result parent there waits,
         order-recorded p.run p.hash result q (without_invocation_of p (end_run r status s))
-            (rise-goes.invocations_go (λ i. not (is_invocation_of p i)) (end_run r status s) rises.ends) there waits
+            (rise-goes.invocations_go (λ i. not (is_invocation_of p i)) (end_run r status s) (rise-ended r status s h.0)) there waits
             ended,
       );
     }

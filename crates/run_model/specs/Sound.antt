@@ -378,7 +378,7 @@ pub record IsSound (s : State) : Type 0 where
 -- ## What is proved of them
 
 -- Of each state that is reached, whatever inputs there were, this is a law: the third, fourth, sixth, eighth, tenth,
--- thirteenth, nineteenth and twentieth condition, and parts of others: numbers that rise, runs that end once, wanted
+-- thirteenth, sixteenth, nineteenth and twentieth condition, and parts of others: numbers that rise, runs that end once, wanted
 -- runs, events of runs and windows, and remembered ids. The ninth is one where functions are in range and fewer than
 -- 2^64 entries were numbered; that functions have ids of their own is one where no registration names an id twice.
 pub record IsReached (s : State) : Type 0 where
@@ -399,6 +399,7 @@ pub record IsReached (s : State) : Type 0 where
   pub dated : IsDated s
   pub named : HasEvents s
   pub of_live : AreOfLive s
+  pub invocations_held : Invokes s
   pub remembered : RemembersOnce s
   pub limits : KeepLimits [] (issue_entries s)
   pub settled : next_issued s ≡ None

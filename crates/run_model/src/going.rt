@@ -3,7 +3,7 @@ ghost use Rattle.kinds.specs.declared.input.Input.{Input};
 ghost use Rattle.kinds.specs.declared.limits.Limits.{Limits};
 ghost use Rattle.run_model.specs.Machine.{fold};
 ghost use Rattle.run_model.specs.Making.{has_discovery};
-ghost use Rattle.run_model.specs.Sound.{AwaitsOnce, Wakes, can_go_on};
+ghost use Rattle.run_model.specs.Sound.{AwaitsOnce, Invokes, Wakes, can_go_on};
 ghost use Rattle.run_model.specs.State.{Run};
 ghost use Rattle.std.specs.List.{AllByRecursion};
 ghost use Rattle.std.specs.Prelude.{List, ◌≡◌, true};
@@ -30,4 +30,10 @@ pub fn wanted_runs_find_out()
 pub fn live_runs_can_go_on()
     ensures { (limits : Limits) (inputs : List Input) →
         AllByRecursion (λ r. can_go_on (fold limits inputs) r ≡ true) (fold limits inputs).live }
+{}
+
+/// The step of an invoked run's parent is recorded, or waits for it, where the parent has not ended; and the child of each
+/// invocation is a run that has not ended, whose parent is the invocation's run and step.
+pub fn invocations_have_children()
+    ensures { (limits : Limits) (inputs : List Input) → Invokes (fold limits inputs) }
 {}

@@ -17,7 +17,8 @@ pub use calls::{
 };
 pub use fit::{empty_is_fit, histories_are_fit, steps_stay_fit};
 pub use going::{
-    live_runs_can_go_on, wanted_runs_find_out, what_falls_due_is_recorded, what_waits_is_pending,
+    invocations_have_children, live_runs_can_go_on, wanted_runs_find_out,
+    what_falls_due_is_recorded, what_waits_is_pending,
 };
 pub use items::{
     ended_calls_leave_items_aside, items_have_own_numbers, items_keep_own_numbers,
