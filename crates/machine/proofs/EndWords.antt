@@ -4,46 +4,9 @@ use Rattle.kinds.specs.declared.store.Parent.{Parent}
 use Rattle.kinds.specs.declared.store.RunStatus.TheVariants.{Completed, Failed, Cancelled}
 use Rattle.step_ids.specs.Run.{run_text}
 use Rattle.run_model.specs.Ends.{cancelled_result, end_run, fail_run, failed_content, failed_name, first_text, function_id, is_of_failure, own_event, raise, raise_failed, record_at_parent, tell, tell_parent, without_invocation_of}
-use Rattle.run_model.specs.Recording.{Discovery, at_the_end, data_result, discovered, error_result, is_pending_in, record_result, wake_step}
+use Rattle.run_model.specs.Recording.{Discovery, at_the_end, data_result, error_result, is_pending_in, record_result}
 use Rattle.run_model.specs.State.{State, Run, live_run}
 use Rattle.machine.specs.Words.{cancel_at, complete_at, content_at, content_by, end_at, fail_at, parent_at, raise_by}
-
--- ## What is told
-
--- a step that waits
-pub woken : (run : ℕ) (name result : List ℕ) (s : State) → is_pending_in name (live_run run s) ≡ true
-    → wake_step run name result s ≡ record_result run name result s
-woken run name result s h =
-    ap (λ b. elim b as (λ _. State) [ true ↦ record_result run name result s | false ↦ s ]) h
-
--- one that doesn't
-pub unwoken : (run : ℕ) (name result : List ℕ) (s : State) → is_pending_in name (live_run run s) ≡ false
-    → wake_step run name result s ≡ s
-unwoken run name result s h =
-    ap (λ b. elim b as (λ _. State) [ true ↦ record_result run name result s | false ↦ s ]) h
-
-tell-found : (discovery : Discovery) (p : Parent) (result : List ℕ) (found : Option Run) (s : State)
-    → is_pending_in p.hash found ≡ true
-    → tell discovery p result found s ≡ discovered discovery (record_result p.run p.hash result (without_invocation_of p s))
-tell-found discovery p result None s h = cc
-tell-found discovery p result (Some r) s h = ap (λ b. record_at_parent discovery p result b s) h
-
-pub tells : (discovery : Discovery) (p : Parent) (result : List ℕ) (s : State)
-    → is_pending_in p.hash (live_run p.run s) ≡ true
-    → tell_parent discovery (Some p) result s
-    ≡ discovered discovery (wake_step p.run p.hash result (without_invocation_of p s))
-tells discovery p result s h =
-    tell-found discovery p result (live_run p.run s) s h
-    ∙ ap (discovered discovery) (sym (woken p.run p.hash result (without_invocation_of p s) h))
-
-tell-none : (discovery : Discovery) (p : Parent) (result : List ℕ) (found : Option Run) (s : State)
-    → is_pending_in p.hash found ≡ false → tell discovery p result found s ≡ s
-tell-none discovery p result None s h = refl
-tell-none discovery p result (Some r) s h = ap (λ b. record_at_parent discovery p result b s) h
-
-pub tells-none : (discovery : Discovery) (p : Parent) (result : List ℕ) (s : State)
-    → is_pending_in p.hash (live_run p.run s) ≡ false → tell_parent discovery (Some p) result s ≡ s
-tells-none discovery p result s h = tell-none discovery p result (live_run p.run s) s h
 
 -- ## The ways to end
 

@@ -315,10 +315,10 @@ pub record IsRunGone (number : ℕ) (m : Parts) (rs : RunLists) (a : Admission) 
   pub ruled : rules ≡ filter (λ (e : Rule). not (number == e.run)) m.rules
 
 -- what the run touches, and the one that goes out
-pub record IsLoosened (number : ℕ) (e : Ending) (out : Option ℕ) (old new : Loose) : Type 0 where
+pub record IsLoosened (number : ℕ) (e : Ending) (gone : Option ℕ) (old new : Loose) : Type 0 where
   pub mid : List ℕ
   pub own : IsJoined number old.runs mid
-  pub out : IsJoinedBy out mid new.runs
+  pub out : IsJoinedBy gone mid new.runs
   pub events : AreJoined e.ended.events old.events new.events
   pub versions : IsJoined e.version old.versions new.versions
 

@@ -501,8 +501,7 @@ module _ (i : Item) (no_retry : Bool) (all rest more : List Op) (o : Op) (old l 
       × Becomes (take_operations i no_retry all (begun (state_of old))).state old new
   taking-stops first h is became stops =
       let stopped = stopped-by begun_here.stopped begun_here.again (sym stops ∙ is) in
-      let whole = sym (none-further i no_retry more (with_again again begun_here) stopped) ∙ one-further first h in
-      (
+      let whole = sym (none-further i no_retry more (with_again again begun_here) stopped) ∙ one-further first h in (
         ap (λ b. taken_by b (again || begun_here.again)) (sym stopped) ∙ ap taken_of whole,
         record {
           state = became.state ∙ ap (λ (t : Taking). t.state) whole;
@@ -517,8 +516,7 @@ pub taking-done : (i : Item) (no_retry : Bool) (all rest : List Op) (old l : Par
     × Becomes (take_operations i no_retry all (begun (state_of old))).state old l
 unfolding take_operations
 taking-done i no_retry all rest old l again none h =
-    let whole = ap (λ os. take_operations i no_retry os (paused (state_of l) again)) (sym none) ∙ h.same in
-    (
+    let whole = ap (λ os. take_operations i no_retry os (paused (state_of l) again)) (sym none) ∙ h.same in (
       ap taken_of whole,
       record { state = ap (λ (t : Taking). t.state) whole; held = h.held; clock = h.clock },
     )

@@ -11,7 +11,6 @@ use Rattle.machine.specs.Numbers.{IsJoined}
 use Rattle.machine.specs.View.{state_of}
 use Rattle.machine.specs.declared.parts.Parts.{Parts}
 use Rattle.machine.proofs.Changed.{KeepsNames, ends-changed, events-changed, versions-changed, wants-changed, wants-noted}
-use Rattle.machine.proofs.HeldWords.{becomes-same}
 
 pub keeps-record : (name result : List ℕ) → KeepsNames (record_in name result)
 keeps-record name result = record { number = λ r. refl; events = λ r. refl; version = λ r. refl }
@@ -115,17 +114,3 @@ held-wake m run name result wanting a rs woken is told live closing items joined
     (sym is ∙ told)
     (held-record m run name result wanting a rs items
     (live ∙ ap (λ b. cond b (changed run (record_in name result) m.runs.live) m.runs.live) is) closing joined h)
-
-pub held-asleep : (m : Parts) (run : ℕ) (name result : List ℕ) (rs : RunLists) (woken : Bool)
-    → woken ≡ false → woken ≡ is_pending_in name (run_at run m.runs.live)
-    → rs.live ≡ cond woken (changed run (record_in name result) m.runs.live) m.runs.live
-    → rs.closing ≡ m.runs.closing → IsHeld m
-    → Becomes (wake_step run name result (state_of m)) m (record m { runs = rs })
-held-asleep m run name result rs woken is told live closing h =
-    let s : State = state_of m in
-    subst (λ b. Becomes (elim b as (λ _. State) [ true ↦ record_result run name result s | false ↦ s ]) m
-    (record m { runs = rs })) (sym is ∙ told)
-    (subst (λ (l : RunLists). Becomes s m (record m { runs = l }))
-    (sym (as-lists rs m.runs.live m.runs.closing
-    (live ∙ ap (λ b. cond b (changed run (record_in name result) m.runs.live) m.runs.live) is) closing))
-    (becomes-same m h))

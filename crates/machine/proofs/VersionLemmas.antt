@@ -42,8 +42,8 @@ unfolding IsStrictlySortedBy
 ordered-both n [] gs low high a b = b
 ordered-both n (f ∷ fs) gs low high a b = (
   all-joined (λ g. by_version f g ≡ Less) fs gs a.0
-  (all-weaker (λ (g : FunctionEntry). n < g.version) (λ g. by_version f g ≡ Less) gs
-  (λ g (over : n < g.version). less f.version g.version (omega (arith, low.0, over))) high),
+      (all-weaker (λ (g : FunctionEntry). n < g.version) (λ g. by_version f g ≡ Less) gs
+      (λ g (over : n < g.version). less f.version g.version (omega (arith, low.0, over))) high),
   ordered-both n fs gs low.1 high a.1 b,
 )
 
@@ -84,7 +84,7 @@ new-above name n [] = tt
 new-above name n (f ∷ fs) = (
   omega arith,
   all-weaker (λ (g : FunctionEntry). n + 1 < g.version) (λ (g : FunctionEntry). n < g.version)
-  (numbered name (n + 1) fs) (λ g (over : n + 1 < g.version). omega (arith, over)) (new-above name (n + 1) fs),
+      (numbered name (n + 1) fs) (λ g (over : n + 1 < g.version). omega (arith, over)) (new-above name (n + 1) fs),
 )
 
 new-ordered : (name : List ℕ) (n : ℕ) (fs : List Function) → IsStrictlySortedBy by_version (numbered name n fs)
@@ -92,7 +92,7 @@ unfolding IsStrictlySortedBy
 new-ordered name n [] = tt
 new-ordered name n (f ∷ fs) = (
   all-weaker (λ (g : FunctionEntry). n + 1 < g.version) (λ (g : FunctionEntry). nat_cmp (n + 1) g.version ≡ Less)
-  (numbered name (n + 1) fs) (λ g over. less (n + 1) g.version over) (new-above name (n + 1) fs),
+      (numbered name (n + 1) fs) (λ g over. less (n + 1) g.version over) (new-above name (n + 1) fs),
   new-ordered name (n + 1) fs,
 )
 
@@ -181,11 +181,14 @@ module _ (current : List FunctionEntry) (old new : List (ℕ × FunctionEntry)) 
       (λ y there. at-other e.version y.version (fresh.retired e y (inl refl) there)))) put ordered
 
   pub versioned-put : (values_of new ≡ insert_by version_of e (values_of old)) × AreVersioned current new
-  versioned-put = (stored-put.0, record {
-    ordered = h.ordered;
-    stored = stored-put.1;
-    apart = λ f g a b. other f g a (in-inserted e g (values_of old) (subst (IsIn g) stored-put.0 b));
-  })
+  versioned-put = (
+    stored-put.0,
+    record {
+      ordered = h.ordered;
+      stored = stored-put.1;
+      apart = λ f g a b. other f g a (in-inserted e g (values_of old) (subst (IsIn g) stored-put.0 b));
+    },
+  )
     where
       other : (f g : FunctionEntry) → IsIn f current → (e ≡ g) ⊎ IsIn g (values_of old) → f.version ≢ g.version
       other f g a (inl same) = λ k.
@@ -231,12 +234,15 @@ module _ (current : List FunctionEntry) (old new : List (ℕ × FunctionEntry)) 
 
   pub versioned-left : (values_of new ≡ filter (λ (f : FunctionEntry). not (n == f.version)) (values_of old))
       × AreVersioned current new
-  versioned-left = (stored-left.0, record {
-    ordered = h.ordered;
-    stored = stored-left.1;
-    apart = λ f g a b. h.apart f g a
-        (in-filter (λ (f : FunctionEntry). not (n == f.version)) g (values_of old) (subst (IsIn g) stored-left.0 b));
-  })
+  versioned-left = (
+    stored-left.0,
+    record {
+      ordered = h.ordered;
+      stored = stored-left.1;
+      apart = λ f g a b. h.apart f g a
+          (in-filter (λ (f : FunctionEntry). not (n == f.version)) g (values_of old) (subst (IsIn g) stored-left.0 b));
+    },
+  )
 
 -- ## None
 

@@ -32,7 +32,7 @@ rises (f ∷ fs) zero zero d ordered le low = omega arith
 rises (f ∷ fs) zero (suc j) d ordered le low =
     let there : IsIn (slice_index_or fs j d) fs = in-at fs j d (omega (arith, low)) in
     let over : f.version < version_of_at fs j d =
-        below f.version (version_of_at fs j d) (in-all (λ y. by_version f y ≡ Less) (slice_index_or fs j d) fs there ordered.0) in
+    below f.version (version_of_at fs j d) (in-all (λ y. by_version f y ≡ Less) (slice_index_or fs j d) fs there ordered.0) in
     omega (arith, over)
 rises (f ∷ fs) (suc i) zero d ordered le low = absurd (omega (arith, le))
 rises (f ∷ fs) (suc i) (suc j) d ordered le low = rises fs i j d ordered.1 (omega (arith, le)) (omega (arith, low))
@@ -54,7 +54,7 @@ found-at (f ∷ fs) v zero ordered low h d =
 found-at (f ∷ fs) v (suc i) ordered low h d =
     let there : IsIn (slice_index_or fs i f) fs = in-at fs i f (omega (arith, low)) in
     let over : f.version < version_of_at fs i f =
-        below f.version (version_of_at fs i f) (in-all (λ y. by_version f y ≡ Less) (slice_index_or fs i f) fs there ordered.0) in
+    below f.version (version_of_at fs i f) (in-all (λ y. by_version f y ≡ Less) (slice_index_or fs i f) fs there ordered.0) in
     found-at fs v i ordered.1 (omega (arith, low)) h d
     ∙ sym (cond-false (v == f.version) (Some f) (find (λ (f : FunctionEntry). v == f.version) fs)
     (no-same v f.version (λ e. absurd (omega (arith, over, e, h f)))))

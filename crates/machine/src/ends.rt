@@ -74,9 +74,6 @@ impl Parts {
             (cancel_at (when_of discovery) (live_run run (state_of self.old)) (state_of self.old))
             self.old self.new) }
     {
-        if self.runs.live(run).is_none() {
-            return Ok(());
-        }
         let parent = self.end_run(run, RunStatus::Cancelled)?;
         let error = error_object(self.alloc, b"invoked run cancelled")?;
         let result = error_result(self.alloc, error.as_slice())?;

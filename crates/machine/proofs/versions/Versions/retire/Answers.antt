@@ -15,8 +15,8 @@ loop-entry-preserved c =
     let rest = into_iter_items c.next.new.self in (
       c.in_ok-retire_one.ensures.current ∙ c.loop-entry.invariant.0,
       ap (insert_all rest) c.in_ok-retire_one.ensures.retired
-      ∙ sym (ap (λ fs. insert_all fs c.loop-entry.self.retired) c.in-Some.ensures.steps.0) ∙ c.loop-entry.invariant.1,
+          ∙ sym (ap (λ fs. insert_all fs c.loop-entry.self.retired) c.in-Some.ensures.steps.0) ∙ c.loop-entry.invariant.1,
       fresh-rest c.in-Some.entry rest c.loop-entry.self c.retire_one.new.self
-      (subst (λ fs. AreFresh fs c.loop-entry.self) c.in-Some.ensures.steps.0 c.loop-entry.invariant.2)
-      c.in_ok-retire_one.ensures.current c.in_ok-retire_one.ensures.retired,
+          (subst (λ fs. AreFresh fs c.loop-entry.self) c.in-Some.ensures.steps.0 c.loop-entry.invariant.2)
+          c.in_ok-retire_one.ensures.current c.in_ok-retire_one.ensures.retired,
     )
