@@ -5,7 +5,9 @@ ghost use Rattle.awaited.specs.Entries.{sleep_number, invocation_number};
 
 use crate::{Invocation, Invocations, Placed, Rules, Sleep, Sleeps, Waits, WindowSet};
 use expr::Expr;
-use kinds::{Batch, Due, Event, Matcher, Parent, PathMatcher, Rule, StepHash, Steps, Wait, WindowRule};
+use kinds::{
+    Batch, Due, Event, Matcher, Parent, PathMatcher, Rule, StepHash, Steps, Wait, WindowRule,
+};
 use lists::{Bytes, Memory};
 use std::alloc::Global;
 use std::marker::Brand;
