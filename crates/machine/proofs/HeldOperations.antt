@@ -20,7 +20,8 @@ use Rattle.run_model.specs.Fit.{IsFit, IsRunFit, IsWaitFit}
 use Rattle.run_model.specs.Ends.{fail_run}
 use Rattle.run_model.specs.Making.{is_item_of, step_target}
 use Rattle.run_model.specs.Recording.{change_run, data_result, error_result, record_result}
-use Rattle.run_model.specs.Replies.{Taking, add_sleep, add_wait, begun, invoke, is_final, noted, on_error, plan_named, stops, take_found, take_named, take_operation, take_operations}
+use Rattle.run_model.specs.Replies.{Taking, add_sleep, add_wait, begun, invoke, is_final, noted, on_error, plan_named, take_found, take_named, take_operation, take_operations}
+use Rattle.run_model.specs.Replies as replies
 use Rattle.run_model.specs.State.{State, Run, Issue, Waiting, live_run, text_of}
 use Rattle.run_model.proofs.FitCounts.{fit-conditions, fit-entries, fit-live, fit-times}
 use Rattle.run_model.proofs.FitRuns.{all-changed, bucket-found, first-given}
@@ -28,9 +29,9 @@ use Rattle.run_model.proofs.Members.{in-all, in-found}
 use Rattle.run_model.proofs.SettlingLists.{find-map, found-passes}
 use Rattle.machine.specs.Held.{AreWantsNoted, Becomes, IsHeld, is_left}
 use Rattle.machine.specs.Numbers.{has_number}
-use Rattle.machine.specs.Operations.{at_run, early_by, early_taken, effect_of, error_taken, first_at, new_wait, note_of, slept, taken_again, taken_by, taken_of, too_many_steps, waited}
+use Rattle.machine.specs.Operations.{at_run, early_by, early_taken, effect_of, error_taken, first_at, is_again, new_wait, note_of, plan_at, sleep_at, slept, stops, taken_again, taken_by, taken_of, too_many_steps, wait_at, waited}
 use Rattle.machine.specs.View.{state_of}
-use Rattle.machine.specs.Words.{fail_at, retries_at}
+use Rattle.machine.specs.Words.{fail_at, queue_at, retries_at}
 use Rattle.machine.specs.declared.counts.Counts.{Counts}
 use Rattle.machine.specs.declared.operations.Taken.{Taken}
 use Rattle.machine.specs.declared.operations.Taken.TheVariants.{GoesOn, Again, Stops}
@@ -257,7 +258,7 @@ own-run run r s e = eqb-true run r.number (found-passes (λ (q : Run). run == q.
 -- what follows on a run that was changed is what the run's own number makes
 pub then-at : (m between new : Parts) (run : ℕ) (note : Run → Noting) (f : Run → Run) (word : ℕ → State → State)
     (effect : Run → State → State) (found : Option Run) (n : Naming) → live_run run (state_of m) ≡ found
-    → ((r : Run) → live_run r.number (state_of m) ≡ Some r
+    → ((r : Run) → live_run r.number (state_of m) ≡ Some r → naming_of (note r) ≡ New
     → word r.number (change_run r.number f (state_of m)) ≡ effect r (state_of m))
     → n ≡ naming_in note found → n ≡ New
     → Becomes (if_new n (change_run run f (state_of m)) (state_of m)) m between
@@ -268,9 +269,59 @@ then-at m between new run note f word effect (Some r) n e same named is first th
     let at : run ≡ r.number = own-run run r (state_of m) e in
     let here : live_run r.number (state_of m) ≡ Some r = subst (λ k. live_run k (state_of m) ≡ Some r) at e in
     subst (λ s. Becomes s m new)
-    (ap (λ k. word k (change_run k f (state_of m))) at ∙ same r here)
+    (ap (λ k. word k (change_run k f (state_of m))) at ∙ same r here (sym named ∙ is))
     (becomes-then (word run) (change_run run f (state_of m)) m between new
     (subst (λ k. Becomes (if_new k (change_run run f (state_of m)) (state_of m)) m between) is first) then)
+
+same-number : (run : ℕ) (f : Run → Run) (q : Run) → (f q).number ≡ q.number → (b : Bool)
+    → (run == (cond b (f q) q).number) ≡ (run == q.number)
+same-number run f q same true = ap (λ n. run == n) same
+same-number run f q same false = refl
+
+-- a run that changes is found changed
+changed-found : (run : ℕ) (f : Run → Run) (r : Run) (s : State) → ((q : Run) → (f q).number ≡ q.number)
+    → live_run run s ≡ Some r → live_run run (change_run run f s) ≡ Some (f r)
+changed-found run f r s same found =
+    find-map (λ (q : Run). run == q.number) (λ (q : Run). cond (run == q.number) (f q) q) s.live
+    (λ q. same-number run f q (same q) (run == q.number))
+    ∙ ap (option_map (λ (q : Run). cond (run == q.number) (f q) q)) found
+    ∙ ap (λ b. Some (cond b (f r) r)) (found-passes (λ (q : Run). run == q.number) s.live r found)
+
+module _ (m between new : Parts) (run : ℕ) (name : List ℕ) (n : Naming) where
+  pub plan-then : n ≡ naming_in (plan_in name) (live_run run (state_of m)) → n ≡ New
+      → Becomes (if_new n (change_run run (with_plan name) (state_of m)) (state_of m)) m between
+      → Becomes (queue_at (live_run run (state_of between)) name (state_of between)) between new
+      → Becomes (plan_at (live_run run (state_of m)) name (state_of m)) m new
+  plan-then named is first then =
+      then-at m between new run (plan_in name) (with_plan name) (λ k s. queue_at (live_run k s) name s)
+      (λ r. plan_named r name) (live_run run (state_of m)) n refl
+      (λ r here fresh. ap (λ o. queue_at o name (change_run r.number (with_plan name) (state_of m)))
+      (changed-found r.number (with_plan name) r (state_of m) (λ q. refl) here)) named is first then
+
+  pub sleep-then : (t : Time) → n ≡ naming_in (pend_in name pending.Sleep) (live_run run (state_of m)) → n ≡ New
+      → Becomes (if_new n (change_run run (with_pending name pending.Sleep) (state_of m)) (state_of m)) m between
+      → Becomes (slept run name t (state_of between)) between new
+      → Becomes (sleep_at (live_run run (state_of m)) name t (state_of m)) m new
+  sleep-then t named is first then =
+      then-at m between new run (pend_in name pending.Sleep) (with_pending name pending.Sleep)
+      (λ k s. slept k name t s) (λ r. add_sleep r name t) (live_run run (state_of m)) n refl
+      (λ r here fresh. refl) named is first then
+
+  pub wait-then : (event : List ℕ) (t : Time) (cond : Option (List ℕ))
+      → n ≡ naming_in (pend_in name pending.Wait) (live_run run (state_of m)) → n ≡ New
+      → Becomes (if_new n (change_run run (with_pending name pending.Wait) (state_of m)) (state_of m)) m between
+      → Becomes (waited run name event t cond (state_of between)) between new
+      → Becomes (wait_at (live_run run (state_of m)) name event t cond (state_of m)) m new
+  wait-then event t cond named is first then =
+      then-at m between new run (pend_in name pending.Wait) (with_pending name pending.Wait)
+      (λ k s. waited k name event t cond s) (λ r. add_wait r name event t cond) (live_run run (state_of m)) n refl
+      (λ r here fresh.
+      let s = change_run r.number (with_pending name pending.Wait) (state_of m) in
+      ap (λ o. record s {
+        entries = m.counts.entries + 1;
+        waits = m.waits ++ (record { wait = new_wait o r.number event t cond s; hash = name }) ∷ [];
+      }) (changed-found r.number (with_pending name pending.Wait) r (state_of m) (λ q. refl) here))
+      named is first then
 
 -- nothing is made where the name isn't new
 pub still-at : (m new : Parts) (n : Naming) (a b : State) → (n ≡ New → ⊥)
@@ -352,6 +403,48 @@ gives-named i no_retry o s n late named =
     (fail_at (live_run i.run s) too_many_steps s)) (sym named)
     (gives-found i no_retry o (live_run i.run s) s (sym late))
 
+pub operation-new : (m new : Parts) (i : Item) (no_retry : Bool) (o : Op) (n : Naming) → n ≡ New
+    → None ≡ early_taken i no_retry o (live_run i.run (state_of m)) (state_of m)
+    → n ≡ naming_in (note_of o) (live_run i.run (state_of m))
+    → Becomes (if_new n (at_run (effect_of o) (live_run i.run (state_of m)) (state_of m)) (state_of m)) m new
+    → (GoesOn ≡ taken_of (take_operation i no_retry o (begun (state_of m))))
+    × Becomes (take_operation i no_retry o (begun (state_of m))).state m new
+operation-new m new i no_retry o New is late named h =
+    let g = gives-named i no_retry o (state_of m) New late named in
+    (g.taken, subst (λ s. Becomes s m new) (sym g.state) h)
+operation-new m new i no_retry o Known is late named h = cc
+operation-new m new i no_retry o Full is late named h = cc
+
+pub operation-known : (m new : Parts) (i : Item) (no_retry : Bool) (o : Op) (n : Naming) → n ≡ Known
+    → None ≡ early_taken i no_retry o (live_run i.run (state_of m)) (state_of m)
+    → n ≡ naming_in (note_of o) (live_run i.run (state_of m))
+    → Becomes (if_new n (at_run (effect_of o) (live_run i.run (state_of m)) (state_of m)) (state_of m)) m new
+    → (GoesOn ≡ taken_of (take_operation i no_retry o (begun (state_of m))))
+    × Becomes (take_operation i no_retry o (begun (state_of m))).state m new
+operation-known m new i no_retry o New is late named h = cc
+operation-known m new i no_retry o Known is late named h =
+    let g = gives-named i no_retry o (state_of m) Known late named in
+    (g.taken, subst (λ s. Becomes s m new) (sym g.state) h)
+operation-known m new i no_retry o Full is late named h = cc
+
+-- the run fails then
+pub operation-full : (m l new : Parts) (i : Item) (no_retry : Bool) (o : Op) (n : Naming) → n ≡ Full
+    → None ≡ early_taken i no_retry o (live_run i.run (state_of m)) (state_of m)
+    → n ≡ naming_in (note_of o) (live_run i.run (state_of m))
+    → Becomes (if_new n (at_run (effect_of o) (live_run i.run (state_of m)) (state_of m)) (state_of m)) m l
+    → Becomes (fail_at (live_run i.run (state_of l)) too_many_steps (state_of l)) l new
+    → (Stops ≡ taken_of (take_operation i no_retry o (begun (state_of m))))
+    × Becomes (take_operation i no_retry o (begun (state_of m))).state m new
+operation-full m l new i no_retry o New is late named h k = cc
+operation-full m l new i no_retry o Known is late named h k = cc
+operation-full m l new i no_retry o Full is late named h k =
+    let g = gives-named i no_retry o (state_of m) Full late named in
+    (
+      g.taken,
+      subst (λ s. Becomes s m new) (sym g.state)
+          (becomes-then (λ s. fail_at (live_run i.run s) too_many_steps s) (state_of m) m l new h k),
+    )
+
 -- an error that isn't the last changes nothing
 record IsEarly (t : Taking) (taken : Taken) (s : State) : Type 0 where
   pub told : taken ≡ taken_of t
@@ -400,7 +493,7 @@ noted-again : (noting : Noting) (r : Run) (effect : State → State) (s : State)
     → noted noting r effect (paused s b) ≡ with_again b (noted noting r effect (begun s))
 noted-again (adds steps) r effect s b = ap (paused (effect s)) (or-false b)
 noted-again known r effect s b = ap (paused s) (or-false b)
-noted-again full r effect s b = ap (λ c. record (stops r (begun s)) { again = c }) (or-false b)
+noted-again full r effect s b = ap (λ c. record (replies.stops r (begun s)) { again = c }) (or-false b)
 
 error-again : (final : Bool) (r : Run) (name error : List ℕ) (s : State) (b : Bool)
     → on_error final r name error (paused s b) ≡ with_again b (on_error final r name error (begun s))
@@ -439,10 +532,13 @@ none-further i no_retry (o ∷ os) t h =
     ap (take_operations i no_retry os) (chosen t.stopped t (take_found i no_retry o (live_run i.run t.state) t) h)
     ∙ none-further i no_retry os t h
 
-abbrev is_again : Taken → Bool
-is_again Again = true
-is_again GoesOn = false
-is_again Stops = false
+pub not-stops : (t : Taken) → stops t ≡ false → t ≡ Stops → ⊥
+not-stops t h is = let clash : true ≡ false = sym (ap stops is) ∙ h in absurd (cc)
+
+pub stops-is : (t : Taken) → stops t ≡ true → t ≡ Stops
+stops-is Stops h = refl
+stops-is GoesOn h = cc
+stops-is Again h = cc
 
 -- what is left of the operations makes of the parts now what all make of those at first
 pub record IsTaking (i : Item) (no_retry : Bool) (all rest : List Op) (old new : Parts) (again : Bool)
@@ -499,9 +595,10 @@ module _ (i : Item) (no_retry : Bool) (all rest more : List Op) (o : Op) (old l 
       → taken ≡ taken_of begun_here → Becomes begun_here.state l new → taken ≡ Stops
       → (Stops ≡ taken_of (take_operations i no_retry all (begun (state_of old))))
       × Becomes (take_operations i no_retry all (begun (state_of old))).state old new
-  taking-stops first h is became stops =
-      let stopped = stopped-by begun_here.stopped begun_here.again (sym stops ∙ is) in
-      let whole = sym (none-further i no_retry more (with_again again begun_here) stopped) ∙ one-further first h in (
+  taking-stops first h is became halts =
+      let stopped = stopped-by begun_here.stopped begun_here.again (sym halts ∙ is) in
+      let whole = sym (none-further i no_retry more (with_again again begun_here) stopped) ∙ one-further first h in
+      (
         ap (λ b. taken_by b (again || begun_here.again)) (sym stopped) ∙ ap taken_of whole,
         record {
           state = became.state ∙ ap (λ (t : Taking). t.state) whole;
@@ -516,7 +613,8 @@ pub taking-done : (i : Item) (no_retry : Bool) (all rest : List Op) (old l : Par
     × Becomes (take_operations i no_retry all (begun (state_of old))).state old l
 unfolding take_operations
 taking-done i no_retry all rest old l again none h =
-    let whole = ap (λ os. take_operations i no_retry os (paused (state_of l) again)) (sym none) ∙ h.same in (
+    let whole = ap (λ os. take_operations i no_retry os (paused (state_of l) again)) (sym none) ∙ h.same in
+    (
       ap taken_of whole,
       record { state = ap (λ (t : Taking). t.state) whole; held = h.held; clock = h.clock },
     )

@@ -32,6 +32,16 @@ taken_of t = taken_by t.stopped t.again
 abbrev pub taken_again : Bool → Taken
 taken_again b = taken_by false b
 
+abbrev pub stops : Taken → Bool
+stops Stops = true
+stops GoesOn = false
+stops Again = false
+
+abbrev pub is_again : Taken → Bool
+is_again Again = true
+is_again GoesOn = false
+is_again Stops = false
+
 abbrev pub error_taken : List ℕ → Option Run → Taken
 error_taken name None = GoesOn
 error_taken name (Some r) = taken_again (is_new_result name r.steps)

@@ -44,11 +44,14 @@ impl Parts {
             (state_of self.old)) self.old self.new) }
     {
         let naming = self.pend(run, &hash, Pending::Invocation)?;
-        if naming != Naming::New {
-            return Ok(naming);
+        match naming {
+            Naming::New => {
+                self.invoke_current(run, hash, function, &payload, timeout)?;
+                Ok(Naming::New)
+            }
+            Naming::Known => Ok(Naming::Known),
+            Naming::Full => Ok(Naming::Full),
         }
-        self.invoke_current(run, hash, function, &payload, timeout)?;
-        Ok(Naming::New)
     }
 
     // The step waits already.

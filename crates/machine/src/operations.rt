@@ -1,8 +1,8 @@
 // The operations of a reply, in order.
-ghost use Rattle.std.specs.Prelude.{◌≡◌, nat_le, IfOk, OnOk};
+ghost use Rattle.std.specs.Prelude.{◌≡◌, ◌||◌, nat_le, IfOk, OnOk};
 ghost use Rattle.kinds.specs.declared.store.Pending.TheVariants as pending;
 ghost use Rattle.machine.specs.Held.{Becomes, IsHeld};
-ghost use Rattle.machine.specs.Operations.{at_run, early_taken, effect_of, error_taken, first_at, new_wait, note_of, plan_at, sleep_at, slept, taken_again, taken_of, too_many_steps, wait_at, waited};
+ghost use Rattle.machine.specs.Operations.{at_run, early_taken, effect_of, error_taken, first_at, is_again, new_wait, note_of, plan_at, sleep_at, slept, stops, taken_again, taken_of, too_many_steps, wait_at, waited};
 ghost use Rattle.machine.specs.View.{state_of};
 ghost use Rattle.machine.specs.Words.{fail_at, retries_at};
 ghost use Rattle.machine.specs.declared.operations.Taken.TheVariants.{Stops};
@@ -50,10 +50,10 @@ impl Parts {
         let mut again = false;
         for op in ops {
             let taken = self.take_operation(item, op, no_retry, steps)?;
-            if taken == Taken::Stops {
+            if stops(taken) {
                 return Ok(Taken::Stops);
             }
-            again = again || taken == Taken::Again;
+            again = or_again(again, taken);
         }
         Ok(taken_again(again))
     }
@@ -74,8 +74,10 @@ impl Parts {
         if let Some(taken) = self.take_early(item, &op, no_retry) {
             return Ok(taken);
         }
-        match self.take_named(item.run, op)? {
-            Naming::New | Naming::Known => Ok(Taken::GoesOn),
+        let naming = self.take_named(item.run, op)?;
+        match naming {
+            Naming::New => Ok(Taken::GoesOn),
+            Naming::Known => Ok(Taken::GoesOn),
             Naming::Full => self.stop(item.run, steps),
         }
     }
@@ -174,11 +176,14 @@ impl Parts {
             (state_of self.old)) self.old self.new) }
     {
         let naming = self.note_plan(run, hash)?;
-        if naming != Naming::New {
-            return Ok(naming);
+        match naming {
+            Naming::New => {
+                self.queue_new(run, hash.as_slice())?;
+                Ok(Naming::New)
+            }
+            Naming::Known => Ok(Naming::Known),
+            Naming::Full => Ok(Naming::Full),
         }
-        self.queue_new(run, hash.as_slice())?;
-        Ok(Naming::New)
     }
 
     fn note_plan(&mut self, run: u64, hash: &StepHash) -> Result<Naming, Memory>
@@ -212,11 +217,14 @@ impl Parts {
             (state_of self.old)) self.old self.new) }
     {
         let naming = self.pend(run, &hash, Pending::Sleep)?;
-        if naming != Naming::New {
-            return Ok(naming);
+        match naming {
+            Naming::New => {
+                self.add_sleep(run, hash, time)?;
+                Ok(Naming::New)
+            }
+            Naming::Known => Ok(Naming::Known),
+            Naming::Full => Ok(Naming::Full),
         }
-        self.add_sleep(run, hash, time)?;
-        Ok(Naming::New)
     }
 
     fn add_sleep(&mut self, run: u64, hash: StepHash, time: Time) -> Result<(), Memory>
@@ -259,11 +267,14 @@ impl Parts {
             (state_of self.old)) self.old self.new) }
     {
         let naming = self.pend(run, &hash, Pending::Wait)?;
-        if naming != Naming::New {
-            return Ok(naming);
+        match naming {
+            Naming::New => {
+                self.add_wait(run, hash, name, timeout, cond)?;
+                Ok(Naming::New)
+            }
+            Naming::Known => Ok(Naming::Known),
+            Naming::Full => Ok(Naming::Full),
         }
-        self.add_wait(run, hash, name, timeout, cond)?;
-        Ok(Naming::New)
     }
 
     fn add_wait(
@@ -315,6 +326,24 @@ impl Parts {
             Some(run) => run.first(),
             None => 0,
         }
+    }
+}
+
+fn stops(taken: Taken) -> bool
+    ensures { result ≡ stops taken }
+{
+    match taken {
+        Taken::Stops => true,
+        Taken::GoesOn | Taken::Again => false,
+    }
+}
+
+fn or_again(again: bool, taken: Taken) -> bool
+    ensures { result ≡ (again || is_again taken) }
+{
+    match taken {
+        Taken::Again => true,
+        Taken::GoesOn | Taken::Stops => again,
     }
 }
 
