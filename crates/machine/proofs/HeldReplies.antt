@@ -1,31 +1,41 @@
 -- The parts after a call is open no more, and after an item is queued again.
 use Rattle.std.proofs.Common.{◌≡◌, ◌≢◌, ℕ, ◌≤◌, ◌==◌, Bool, true, false, not, cond, ◌&&◌, ◌||◌, List, [], ◌∷◌, filter, find, Option, Some, None, refl, sym, ap, ◌∙◌, arith, subst, eqb-true}
+use Rattle.std.specs.Prelude.{is_some}
 use Rattle.std.specs.List.{AllByRecursion, list_any}
 use Rattle.admission.specs.Admission.{Admission}
 use Rattle.admission.specs.Issues.{call_of, has_call, without_call}
 use Rattle.kinds.specs.Queue.{insert_item}
 use Rattle.kinds.specs.declared.reply.After.{After}
+use Rattle.kinds.specs.declared.reply.After.TheVariants as after
+use Rattle.kinds.specs.declared.reply.Op.{Op}
+use Rattle.kinds.specs.declared.reply.Outcome.{Outcome}
+use Rattle.kinds.specs.declared.reply.ReplyIn.{ReplyIn}
 use Rattle.kinds.specs.declared.store.Item.{Item}
 use Rattle.lists.proofs.Elements.{all-filter, all-weaker}
 use Rattle.lists.proofs.Keyed.{filter_none}
-use Rattle.runs.specs.Runs.{run_number}
-use Rattle.run_model.specs.Fit.{IsAside, IsFit, IsIssueFit}
-use Rattle.run_model.specs.Making.{is_item_of, queue, step_target}
-use Rattle.run_model.specs.Replies.{again, close}
+use Rattle.sdk_reply.specs.Outcome.{outcome_of}
+use Rattle.run_model.specs.Fit.{HasOwnNumbers, IsAside, IsFit, IsIssueFit}
+use Rattle.run_model.specs.Making.{discover, is_item_of, queue, step_target}
+use Rattle.run_model.specs.Replies.{after_found, again, begun, close, fail_found, lacks_target, on_reply, retry, take_operations}
 use Rattle.run_model.specs.Sound.{ArePairwise}
-use Rattle.run_model.specs.State.{State, Run, Issue, EndedRun, has_open_call, open_issue}
-use Rattle.run_model.proofs.Apart.{all-none, not-same}
+use Rattle.run_model.specs.State.{State, Run, Issue, EndedRun, has_open_call, live_run, open_issue}
+use Rattle.run_model.proofs.Apart.{all-none, aside-operations, not-same}
 use Rattle.run_model.proofs.FitCounts.{fit-calls}
 use Rattle.run_model.proofs.FitRuns.{fit-queue}
 use Rattle.run_model.proofs.FitWindows.{pairs-filter}
 use Rattle.machine.specs.Held.{AreEndsRight, AreWantsNoted, Becomes, IsClosing, IsHeld, is_left}
 use Rattle.machine.specs.Numbers.{IsJoined, has_number}
+use Rattle.machine.specs.Operations.{taken_of}
+use Rattle.machine.specs.Replies.{ops_at, outcome_at}
 use Rattle.machine.specs.View.{state_of}
+use Rattle.machine.specs.Words.{item_in}
 use Rattle.machine.specs.declared.loose.Loose.{Loose}
+use Rattle.machine.specs.declared.operations.Taken.TheVariants.{GoesOn, Again, Stops}
 use Rattle.machine.specs.declared.parts.Parts.{Parts}
 use Rattle.machine.proofs.HeldEvents.{untouched}
 use Rattle.machine.proofs.HeldMaking.{wants-queued}
-use Rattle.machine.proofs.HeldWords.{becomes-same}
+use Rattle.machine.proofs.HeldWords.{becomes-same, becomes-then}
+use Rattle.machine.proofs.Replied.{closed-aside, failed, failed-none, ops-again, ops-on, ops-stop, replied, replied-ended, replied-none}
 
 pub none-of : {X : Type 0} (found : Option X) → ((x : X) → found ≡ Some x → ⊥) → found ≡ None
 none-of None h = refl
@@ -188,3 +198,93 @@ held-again m i after a queued aside h =
       };
       clock = refl;
     })
+
+-- ## A call that ends, and what follows
+
+pub not-true : (b : Bool) → not b ≡ true → b ≡ false
+not-true true h = cc
+not-true false h = refl
+
+pub not-false : (b : Bool) → not b ≡ false → b ≡ true
+not-false true h = refl
+not-false false h = cc
+
+some-is : {X : Type 0} (found : Option X) → true ≡ is_some found → found ≡ None → ⊥
+some-is None h none = cc
+some-is (Some x) h none = cc
+
+none-is : {X : Type 0} (found : Option X) → false ≡ is_some found → found ≡ None
+none-is None h = refl
+none-is (Some x) h = cc
+
+module _ (call : ℕ) (m a : Parts) (closed : Becomes (close call (state_of m)) m a) where
+  pub call-unknown : (reply : ReplyIn) → None ≡ item_in (open_issue call (state_of m))
+      → Becomes (on_reply call reply (state_of m)) m a
+  call-unknown reply none =
+      subst (λ s. Becomes s m a) (sym (replied-none call (state_of m) reply none)) closed
+
+  pub failed-unknown : (error : List ℕ) → None ≡ item_in (open_issue call (state_of m))
+      → Becomes (fail_found (open_issue call (state_of m)) error (state_of m)) m a
+  failed-unknown error none =
+      subst (λ s. Becomes s m a) (sym (failed-none call (state_of m) error none)) closed
+
+  module _ (item : Item) (is : Some item ≡ item_in (open_issue call (state_of m))) where
+    pub stands-aside : HasOwnNumbers (state_of m) → IsAside item (state_of a)
+    stands-aside own =
+        subst (λ s. IsAside item s) (sym closed.state) (closed-aside call (state_of m) item own is)
+
+    pub call-late : (reply : ReplyIn) → false ≡ is_some (live_run item.run (state_of a))
+        → Becomes (on_reply call reply (state_of m)) m a
+    call-late reply ended =
+        subst (λ s. Becomes s m a) (sym (replied-ended call (state_of m) reply item is
+        (ap (λ s. live_run item.run s) (sym closed.state) ∙ none-is (live_run item.run (state_of a)) ended))) closed
+
+    pub call-answered : (b new : Parts) (reply : ReplyIn) (outcome : Outcome) → outcome ≡ outcome_of reply
+        → true ≡ is_some (live_run item.run (state_of a))
+        → Becomes (outcome_at (live_run item.run (state_of a)) item outcome (state_of a)) a b
+        → Becomes (discover (state_of b)) b new → Becomes (on_reply call reply (state_of m)) m new
+    call-answered b new reply outcome same live taken found =
+        subst (λ s. Becomes s m new) (sym (replied call (state_of m) reply item is
+        (λ none. some-is (live_run item.run (state_of a)) live (ap (λ s. live_run item.run s) closed.state ∙ none))))
+        (becomes-then discover (outcome_at (live_run item.run (state_of m)) item (outcome_of reply)
+        (close call (state_of m))) m b new
+        (becomes-then (λ s. outcome_at (live_run item.run s) item (outcome_of reply) s) (close call (state_of m)) m a b
+        closed (subst (λ o. Becomes (outcome_at (live_run item.run (state_of a)) item o (state_of a)) a b) same taken))
+        found)
+
+    pub call-failed-then : (b new : Parts) (error : List ℕ)
+        → Becomes (retry item after.None error (state_of a)) a b → Becomes (discover (state_of b)) b new
+        → Becomes (fail_found (open_issue call (state_of m)) error (state_of m)) m new
+    call-failed-then b new error retried found =
+        subst (λ s. Becomes s m new) (sym (failed call (state_of m) error item is))
+        (becomes-then discover (retry item after.None error (close call (state_of m))) m b new
+        (becomes-then (retry item after.None error) (close call (state_of m)) m a b closed retried) found)
+
+-- ## Operations, and what follows
+
+module _ (m l new : Parts) (i : Item) (ops : List Op) (no_retry : Bool) (a : After)
+    (told : false ≡ lacks_target i ops)
+    (became : Becomes (take_operations i no_retry ops (begun (state_of m))).state m l) where
+  pub operations-aside : IsAside i (state_of m) → IsAside i (state_of l)
+  operations-aside aside =
+      subst (λ s. IsAside i s) (sym became.state) (aside-operations i no_retry ops (begun (state_of m)) aside)
+
+  pub operations-stop : IsHeld m → Stops ≡ taken_of (take_operations i no_retry ops (begun (state_of m)))
+      → Becomes (ops_at (live_run i.run (state_of m)) i ops no_retry a (state_of m)) m l
+  operations-stop h is =
+      subst (λ s. Becomes s m l) (sym (ops-stop i ops no_retry a (state_of m) (sym told) h.fit is)) became
+
+  pub operations-again : Again ≡ taken_of (take_operations i no_retry ops (begun (state_of m)))
+      → Becomes (retry i a [] (state_of l)) l new
+      → Becomes (ops_at (live_run i.run (state_of m)) i ops no_retry a (state_of m)) m new
+  operations-again is then =
+      subst (λ s. Becomes s m new) (sym (ops-again i ops no_retry a (state_of m) (sym told) is))
+      (becomes-then (retry i a []) (take_operations i no_retry ops (begun (state_of m))).state m l new became then)
+
+  pub operations-on : GoesOn ≡ taken_of (take_operations i no_retry ops (begun (state_of m)))
+      → Becomes (after_found (live_run i.run (state_of l)) i a (state_of l)) l new
+      → Becomes (ops_at (live_run i.run (state_of m)) i ops no_retry a (state_of m)) m new
+  operations-on is then =
+      subst (λ s. Becomes s m new) (sym (ops-on i ops no_retry a (state_of m) (sym told) is))
+      (becomes-then (λ s. after_found (live_run i.run s) i a s)
+      (take_operations i no_retry ops (begun (state_of m))).state m l new became then)

@@ -161,6 +161,19 @@ finished-none i a found t none false = ap (λ f. after_found f i a t.state) none
 abbrev taken : Item → Bool → List Op → State → Taking
 taken i no_retry ops s = take_operations i no_retry ops (begun s)
 
+module _ (i : Item) (a : After) where
+  pub idle-found : (found : Option Run) (t : State) → live_run i.run t ≡ found → idle_at found t ≡ true
+      → after_found found i a t ≡ retry i a moved_nothing t
+  idle-found None t e idle = cc
+  idle-found (Some r) t e idle =
+      ap (λ b. elim b as (λ _. State) [ true ↦ retry_run r i a moved_nothing t | false ↦ t ]) idle
+      ∙ sym (ap (λ f. retry_found f i a moved_nothing t) e)
+
+  pub busy-found : (found : Option Run) (t : State) → idle_at found t ≡ false → after_found found i a t ≡ t
+  busy-found None t busy = refl
+  busy-found (Some r) t busy =
+      ap (λ b. elim b as (λ _. State) [ true ↦ retry_run r i a moved_nothing t | false ↦ t ]) busy
+
 module _ (i : Item) (ops : List Op) (no_retry : Bool) (a : After) (s : State) where
   ops-found : (found : Option Run) → live_run i.run s ≡ found → (b : Bool) → lacks_target i ops ≡ b
       → ops_at found i ops no_retry a s ≡ elim b as (λ _. State) [
@@ -224,19 +237,7 @@ module _ (i : Item) (ops : List Op) (no_retry : Bool) (a : After) (s : State) wh
       [ true ↦ retry i a [] t.state | false ↦ after_found (live_run i.run t.state) i a t.state ])
       (again-by t.stopped t.again is)
 
-  idle-found : (found : Option Run) (t : State) → live_run i.run t ≡ found → idle_at found t ≡ true
-      → after_found found i a t ≡ retry i a moved_nothing t
-  idle-found None t e idle = cc
-  idle-found (Some r) t e idle =
-      ap (λ b. elim b as (λ _. State) [ true ↦ retry_run r i a moved_nothing t | false ↦ t ]) idle
-      ∙ sym (ap (λ f. retry_found f i a moved_nothing t) e)
-
-  busy-found : (found : Option Run) (t : State) → idle_at found t ≡ false → after_found found i a t ≡ t
-  busy-found None t busy = refl
-  busy-found (Some r) t busy =
-      ap (λ b. elim b as (λ _. State) [ true ↦ retry_run r i a moved_nothing t | false ↦ t ]) busy
-
-  ops-on : lacks_target i ops ≡ false → GoesOn ≡ taken_of (taken i no_retry ops s)
+  pub ops-on : lacks_target i ops ≡ false → GoesOn ≡ taken_of (taken i no_retry ops s)
       → ops_at (live_run i.run s) i ops no_retry a s
       ≡ after_found (live_run i.run (taken i no_retry ops s).state) i a (taken i no_retry ops s).state
   ops-on k is =
@@ -245,20 +246,6 @@ module _ (i : Item) (ops : List Op) (no_retry : Bool) (a : After) (s : State) wh
       ∙ ap (λ b. elim b as (λ _. State)
       [ true ↦ retry i a [] t.state | false ↦ after_found (live_run i.run t.state) i a t.state ])
       (on-by t.stopped t.again is)
-
-  pub ops-idle : (t : State) → lacks_target i ops ≡ false → GoesOn ≡ taken_of (taken i no_retry ops s)
-      → t ≡ (taken i no_retry ops s).state → true ≡ idle_at (live_run i.run t) t
-      → ops_at (live_run i.run s) i ops no_retry a s ≡ retry i a moved_nothing t
-  ops-idle t k is same idle =
-      ops-on k is ∙ ap (λ u. after_found (live_run i.run u) i a u) (sym same)
-      ∙ idle-found (live_run i.run t) t refl (sym idle)
-
-  pub ops-busy : (t : State) → lacks_target i ops ≡ false → GoesOn ≡ taken_of (taken i no_retry ops s)
-      → t ≡ (taken i no_retry ops s).state → false ≡ idle_at (live_run i.run t) t
-      → ops_at (live_run i.run s) i ops no_retry a s ≡ t
-  ops-busy t k is same busy =
-      ops-on k is ∙ ap (λ u. after_found (live_run i.run u) i a u) (sym same)
-      ∙ busy-found (live_run i.run t) t (sym busy)
 
 -- ## Outcomes, of a run that may not be there
 
@@ -368,6 +355,11 @@ module _ (call : ℕ) (s : State) where
   pub closed-aside : (item : Item) → HasOwnNumbers s → Some item ≡ item_in (open_issue call s)
       → IsAside item (close call s)
   closed-aside item own is = aside-by (open_issue call s) item own refl is
+
+pub call-failed : (call : ℕ) (s : State)
+    → on_call_failed call s ≡ fail_found (open_issue call s) (error_object (codes "call failed")) s
+unfolding on_call_failed
+call-failed call s = refl
 
 -- ## A step that is recorded
 

@@ -125,9 +125,9 @@ impl Parts {
             run hash payload.now (state_of self.old)) self.old self.new) }
     {
         let event = invoked_event(self.alloc, payload)?;
-        let event = self.add_event(&event)?;
+        let number = self.add_event(&event)?;
         let mut events = Numbers::new(self.alloc);
-        events.push(event)?;
+        events.push(number)?;
         self.make_run(version, events, Some(Parent { run, hash }))
     }
 

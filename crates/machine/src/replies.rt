@@ -1,5 +1,5 @@
 // What a reply to a call does, and a call that fails.
-ghost use Rattle.std.specs.Prelude.{◌≡◌, ◌<◌, IfOk, IfSome, OnOk};
+ghost use Rattle.std.specs.Prelude.{◌≡◌, ◌<◌, ◌+◌, None, is_some, IfOk, IfSome, OnOk};
 ghost use Rattle.std.specs.List.{list_any};
 ghost use Rattle.kinds.specs.ErrorObject.{error_object};
 ghost use Rattle.kinds.specs.RunSteps.{has_name, is_recorded};
@@ -9,7 +9,7 @@ ghost use Rattle.machine.specs.View.{state_of};
 ghost use Rattle.machine.specs.Words.{item_in};
 ghost use Rattle.run_model.specs.Fit.{HasOwnNumbers, IsAside};
 ghost use Rattle.run_model.specs.Making.{queue};
-ghost use Rattle.run_model.specs.Replies.{again, close, fail_found, is_outcome_of, on_call_failed, on_reply, retries_at, retry};
+ghost use Rattle.run_model.specs.Replies.{after_found, again, close, fail_found, is_outcome_of, on_call_failed, on_reply, retries_at, retry};
 ghost use Rattle.run_model.specs.State.{function_at, live_run, open_issue};
 
 use crate::Parts;
@@ -51,12 +51,19 @@ impl Parts {
         let Some(item) = self.close(call)? else {
             return Ok(());
         };
-        if self.runs.live(item.run).is_none() {
+        if !self.is_live(item.run) {
             return Ok(());
         }
         let outcome = read_reply(self.alloc, reply)?;
         self.take_outcome(item, outcome, steps)?;
         self.discover()
+    }
+
+    // Whether a run has not ended.
+    fn is_live(&self, run: u64) -> bool
+        ensures { result ≡ is_some (live_run run (state_of self.now)) }
+    {
+        self.runs.live(run).is_some()
     }
 
     /// A call that couldn't be made, or whose answer never came.
@@ -193,12 +200,7 @@ impl Parts {
             (queue (again item after (state_of self.old)) (state_of self.old)) self.old self.new) }
     {
         let due = later(self.moment, delay(item.attempt, &after, self.moment))?;
-        self.admission.add(Item {
-            attempt: item.attempt + 1,
-            due,
-            start: None,
-            ..item
-        })
+        self.admission.add(again(item, due))
     }
 
     // The operations of a reply.
@@ -219,14 +221,30 @@ impl Parts {
         if lacks_target(item.target.as_slice(), ops.as_slice()) {
             return self.retry_with(item, after, b"target missing", steps);
         }
-        match self.take_operations(&item, ops, no_retry, steps)? {
+        let taken = self.take_operations(&item, ops, no_retry, steps)?;
+        match taken {
             Taken::Stops => Ok(()),
             Taken::Again => self.retry(item, after, b"", steps),
-            Taken::GoesOn if self.is_idle(item.run) => {
-                self.retry_with(item, after, b"reply moved nothing", steps)
-            }
-            Taken::GoesOn => Ok(()),
+            Taken::GoesOn => self.after_operations(item, after, steps),
         }
+    }
+
+    // Where nothing would ever move the run, the call has failed.
+    fn after_operations<L: Ledger>(
+        &mut self,
+        item: Item,
+        after: After,
+        steps: &mut Steps<L>,
+    ) -> Result<(), Memory>
+        requires held { IsHeld self.old }
+        requires aside { IsAside item (state_of self.old) }
+        ensures { OnOk result (Becomes
+            (after_found (live_run item.run (state_of self.old)) item after (state_of self.old)) self.old self.new) }
+    {
+        if self.is_idle(item.run) {
+            return self.retry_with(item, after, b"reply moved nothing", steps);
+        }
+        Ok(())
     }
 
     // Whether nothing would ever move a run.
@@ -244,6 +262,19 @@ impl Parts {
         ensures { result ≡ is_called number (state_of self.now) }
     {
         self.admission.has_items_of(number) || self.admission.has_open_call(number)
+    }
+}
+
+// The same item with the next attempt, due at a moment.
+fn again(item: Item, due: u64) -> Item
+    requires attempts { item.attempt < 255 }
+    ensures { result ≡ record item { attempt = item.attempt + 1; due = due; start = None } }
+{
+    Item {
+        attempt: item.attempt + 1,
+        due,
+        start: None,
+        ..item
     }
 }
 
