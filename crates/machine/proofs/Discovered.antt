@@ -9,7 +9,6 @@ use Rattle.std.proofs.lemmas.Bool.{cond-false}
 use Rattle.std.proofs.lemmas.Bool.Decides.{nat_tests}
 use Rattle.std.proofs.lemmas.Map.Keys.{sorted_head, sorted_tail}
 use Rattle.lists.proofs.Elements.{all-weaker}
-use Rattle.ordered.proofs.Apart.{at_number}
 use Rattle.runs.specs.Runs.{run_number}
 use Rattle.run_model.specs.Making.{discover, discover_all, discover_one, has_discovery, new_item, queue_new, step_target}
 use Rattle.run_model.specs.State.{State, Run, live_run}
@@ -18,6 +17,7 @@ use Rattle.machine.specs.Held.{is_left}
 use Rattle.machine.specs.Numbers.{IsTaken, has_number}
 use Rattle.machine.specs.Words.{queue_at, wants_at}
 use Rattle.machine.proofs.HeldMaking.{left-before}
+use Rattle.machine.proofs.Joined.{at-number}
 
 abbrev left_in : State → Run → Bool
 left_in s r = is_left s.items s.issues r

@@ -1,5 +1,5 @@
 -- The machine before its first input is ready for it.
-use Rattle.std.proofs.Common.{◌≡◌, ◌≢◌, ℕ, ◌≤◌, ◌-◌, List, [], map, length, take, refl, sym, ap, ◌∙◌, arith, subst}
+use Rattle.std.proofs.Common.{◌≡◌, ◌≢◌, ℕ, ◌<◌, ◌≤◌, ◌-◌, ◌^◌, List, [], map, length, take, refl, sym, ap, ◌∙◌, arith, subst}
 use Rattle.std.specs.List.{AllByRecursion}
 use Rattle.std.specs.List.Sorted.{IsStrictlySortedBy}
 use Rattle.std.specs.Ordering.{nat_cmp}
@@ -9,7 +9,7 @@ use Rattle.runs.proofs.Numbers.{rises_none}
 use Rattle.runs.specs.Runs.{run_number}
 use Rattle.run_model.specs.Fit.{HasOwnNumbers, IsFit}
 use Rattle.run_model.specs.Sound.{ArePairwise}
-use Rattle.run_model.specs.State.{State, Run, Issue, EndedRun, empty}
+use Rattle.run_model.specs.State.{State, Run, Issue, EndedRun, empty, kept}
 use Rattle.run_model.proofs.Apart.{apart-fold}
 use Rattle.run_model.proofs.FitSteps.{fit-empty}
 use Rattle.machine.specs.Held.{IsAtRest, IsClosing, IsHeld, IsReady}
@@ -57,6 +57,7 @@ ready-empty m limits e start none = record {
       ap (λ (l : Loose). l.versions) none,
     );
     now = start ∙ sym (ap (λ (s : State). s.moment) e);
+    weighed = subst (λ (s : State). kept s < 2 ^ 64) (sym e) (omega arith);
   };
   apart = subst HasOwnNumbers (sym e) (apart-fold limits []);
 }

@@ -6,6 +6,9 @@ use Rattle.std.specs.Ordering.{is_gt, nat_cmp}
 use Rattle.std.proofs.lemmas.Bool.Decides.{nat_tests}
 use Rattle.machine.specs.Numbers.{AreJoined, IsJoined, IsRest, Keeps, has_number}
 
+pub at-number : (k n : ℕ) → is_at (nat_cmp k) n ≡ (k == n)
+at-number k n = grind (arith, nat_tests)
+
 abbrev Added : ℕ → List ℕ → List ℕ → Type 0
 Added n old new = (k : ℕ) → has_number new k ≡ cond (is_at (nat_cmp n) k) true (has_number old k)
 

@@ -9,7 +9,6 @@ use Rattle.std.proofs.lemmas.Bool.Decides.{nat_tests}
 use Rattle.std.proofs.lemmas.Map.Keys.{sorted_head, sorted_tail}
 use Rattle.kinds.specs.declared.store.Item.{Item}
 use Rattle.lists.proofs.Elements.{all-both}
-use Rattle.ordered.proofs.Apart.{at_number}
 use Rattle.runs.specs.Runs.{run_number}
 use Rattle.run_model.specs.Making.{discover, discover_all, discover_one, is_item_of, new_item, queue_new, step_target}
 use Rattle.run_model.specs.State.{State, Run, Issue, live_run}
@@ -20,6 +19,7 @@ use Rattle.machine.specs.View.{state_of}
 use Rattle.machine.specs.declared.parts.Parts.{Parts}
 use Rattle.machine.proofs.Discovered.{above-head, first-step, pick-all}
 use Rattle.machine.proofs.HeldMaking.{any-inserted}
+use Rattle.machine.proofs.Joined.{at-number}
 
 abbrev left_in : State → Run → Bool
 left_in s r = is_left s.items s.issues r
@@ -36,13 +36,16 @@ and-false false = refl
 its-own : (r : Run) (s : State) → is_item_of r.number step_target (new_item r step_target s) ≡ true
 its-own r s = ap (λ b. b && bytes_eq step_target step_target) (own r.number)
 
-settled-by : (r : Run) (s : State) (b : Bool) → left_in s r ≡ b
-    → left_in (cond b (queue_new r step_target s) s) r ≡ false
-settled-by r s true e =
+pub got-item : (r : Run) (s : State) → left_in (queue_new r step_target s) r ≡ false
+got-item r s =
     ap (λ b. r.wanted && not (b || list_any (λ (i : Issue). is_item_of r.number step_target i.item) s.issues))
     (any-inserted (is_item_of r.number step_target) (new_item r step_target s) s.items
     ∙ ap (λ b. b || list_any (is_item_of r.number step_target) s.items) (its-own r s))
     ∙ and-false r.wanted
+
+settled-by : (r : Run) (s : State) (b : Bool) → left_in s r ≡ b
+    → left_in (cond b (queue_new r step_target s) s) r ≡ false
+settled-by r s true e = got-item r s
 settled-by r s false e = e
 
 settled-one : (r : Run) (s : State) → left_in (discover_one r s) r ≡ false
@@ -93,7 +96,7 @@ live-same (Some r) s = live-by (left_in s r) r s
 
 parted : (k : ℕ) (old new : List ℕ) → IsTaken k old new
     → (n : ℕ) → has_number new n ≡ cond (k == n) false (has_number old n)
-parted k old new taken n = taken.left n ∙ ap (λ b. cond b false (has_number old n)) (at_number k n)
+parted k old new taken n = taken.left n ∙ ap (λ b. cond b false (has_number old n)) (at-number k n)
 
 noted-still : (k : ℕ) (old new : List ℕ) (r : Run) (b left : Bool) → IsTaken k old new
     → (k == r.number) ≡ b → (b ≡ true → left ≡ false) → (left ≡ true → has_number old r.number ≡ true)
@@ -118,7 +121,7 @@ wants-taken k old new live items issues taken settled h = record {
 
 first-there : (k : ℕ) (old new : List ℕ) → old ≡ k ∷ new → has_number old k ≡ true
 first-there k old new e =
-    ap (λ ns. has_number ns k) e ∙ ap (λ b. b || has_number new k) (at_number k k ∙ own k)
+    ap (λ ns. has_number ns k) e ∙ ap (λ b. b || has_number new k) (at-number k k ∙ own k)
 
 taken-next : (m d : Parts) (k : ℕ) (new : List ℕ) → IsTaken k m.wanting new → d.wanting ≡ m.wanting
     → Becomes (discover_at (live_run k (state_of m)) (state_of m)) m d → IsHeld m

@@ -1,18 +1,18 @@
 -- The next moment, the runs of an event by number, and a cancellation that is turned away.
-use Rattle.std.proofs.Common.{◌≡◌, ℕ, ◌==◌, Bool, cond, ◌||◌, List, [], ◌∷◌, ◌++◌, Option, Some, None, refl, sym, ap, ◌∙◌, subst}
+use Rattle.std.proofs.Common.{◌≡◌, ℕ, ◌==◌, Bool, true, false, cond, ◌||◌, List, [], ◌∷◌, ◌++◌, Option, Some, None, nat_le, refl, sym, ap, ap₂, ◌∙◌, subst}
 use Rattle.std.specs.List.{list_any}
 use Rattle.std.proofs.lemmas.List.Folds.{list_any-append}
 use Rattle.lists.specs.Entries.{add_number, add_numbers, in_order}
 use Rattle.admission.specs.Admission.{issue_entries}
 use Rattle.kinds.specs.Queue.{next_item, sooner}
-use Rattle.kinds.specs.declared.refusal.Refusal.TheVariants.{RunEnded, UnknownRun}
+use Rattle.kinds.specs.declared.refusal.Refusal.TheVariants.{KeptFull, RunEnded, RunsFull, UnknownRun}
 use Rattle.runs.specs.Ended.{is_ended, last_ended}
 use Rattle.runs.specs.Runs.{is_in, run_at}
 use Rattle.runs.proofs.Numbers.{in_in_order, rises_in_order, same_numbers}
 use Rattle.run_model.specs.Advance.{least, timed}
-use Rattle.run_model.specs.Machine.{refusal_of_cancel}
+use Rattle.run_model.specs.Machine.{refusal_of_cancel, refusal_of_events}
 use Rattle.run_model.specs.Next.{due_next, next_moment}
-use Rattle.run_model.specs.State.{State, live_run}
+use Rattle.run_model.specs.State.{State, kept, live, live_run}
 use Rattle.machine.specs.View.{state_of}
 use Rattle.machine.specs.declared.parts.Parts.{Parts}
 
@@ -68,3 +68,27 @@ refused-cancel m s run b e none told =
     ≡ cond b (Some (RunEnded run)) (Some (UnknownRun run))) e
     (subst (λ found. refusal_of_cancel run found (state_of m) ≡ cond b (Some (RunEnded run)) (Some (UnknownRun run)))
     none (ap (λ c. cond c (Some (RunEnded run)) (Some (UnknownRun run))) (sym told)))
+
+-- ## Room for new work
+
+pub refused-full : (m : Parts) (s : State) (k : ℕ) → state_of m ≡ s → k ≡ kept s
+    → nat_le m.limits.kept k ≡ true → refusal_of_events s ≡ Some (KeptFull k)
+refused-full m s k e told full =
+    let at : nat_le s.limits.kept (kept s) ≡ true =
+    ap₂ nat_le (ap (λ (t : State). t.limits.kept) (sym e)) (sym told) ∙ full in
+    ap (λ b. cond b (Some (KeptFull (kept s)))
+    (cond (nat_le s.limits.live (live s)) (Some (RunsFull (live s))) None)) at
+    ∙ ap (λ n. Some (KeptFull n)) (sym told)
+
+pub refused-runs : (m : Parts) (s : State) (k n : ℕ) → state_of m ≡ s → k ≡ kept s → n ≡ live s
+    → nat_le m.limits.kept k ≡ false → (b : Bool) → nat_le m.limits.live n ≡ b
+    → refusal_of_events s ≡ cond b (Some (RunsFull n)) None
+refused-runs m s k n e told counted room b full =
+    let at : nat_le s.limits.kept (kept s) ≡ false =
+    ap₂ nat_le (ap (λ (t : State). t.limits.kept) (sym e)) (sym told) ∙ room in
+    let over : nat_le s.limits.live (live s) ≡ b =
+    ap₂ nat_le (ap (λ (t : State). t.limits.live) (sym e)) (sym counted) ∙ full in
+    ap (λ b. cond b (Some (KeptFull (kept s)))
+    (cond (nat_le s.limits.live (live s)) (Some (RunsFull (live s))) None)) at
+    ∙ ap (λ b. cond b (Some (RunsFull (live s))) None) over
+    ∙ ap (λ n. cond b (Some (RunsFull n)) None) (sym counted)

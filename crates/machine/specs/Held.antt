@@ -1,5 +1,5 @@
 -- What holds beside the documented state: what is noted of what a step touched, and what is counted.
-use Rattle.std.specs.Prelude.{ℕ, ◌≡◌, ◌≢◌, ◌≤◌, ◌-◌, ◌==◌, Bool, true, false, not, ◌&&◌, ◌||◌, List, [], ◌∷◌, map, filter, find, take, length, None}
+use Rattle.std.specs.Prelude.{ℕ, ◌≡◌, ◌≢◌, ◌<◌, ◌≤◌, ◌-◌, ◌^◌, ◌==◌, Bool, true, false, not, ◌&&◌, ◌||◌, List, [], ◌∷◌, map, filter, find, take, length, None}
 use Rattle.std.specs.List.{AllByRecursion, list_any}
 use Rattle.std.specs.List.Sorted.{IsStrictlySortedBy}
 use Rattle.std.specs.Ordering.{nat_cmp}
@@ -14,7 +14,7 @@ use Rattle.runs.specs.Runs.{run_number}
 use Rattle.run_model.specs.Fit.{HasOwnNumbers, IsFit}
 use Rattle.run_model.specs.Making.{is_item_of, step_target}
 use Rattle.run_model.specs.Sound.{ArePairwise}
-use Rattle.run_model.specs.State.{State, Run, Issue, EventText, EndedRun, has_open_call, is_in}
+use Rattle.run_model.specs.State.{State, Run, Issue, EventText, EndedRun, has_open_call, is_in, kept}
 use Rattle.machine.specs.Numbers.{has_number}
 use Rattle.machine.specs.View.{state_of}
 use Rattle.machine.specs.declared.parts.Parts.{Parts}
@@ -103,15 +103,9 @@ pub record IsAtRest (m : Parts) : Type 0 where
   pub held : IsHeld m
   pub loose : (m.loose.runs ≡ []) × (m.loose.events ≡ []) × (m.loose.versions ≡ [])
   pub now : m.admission.moment ≡ m.moment
+  pub weighed : kept (state_of m) < 2 ^ 64
 
 -- so is the machine between two inputs
 pub record IsReady (m : Parts) : Type 0 where
   pub rest : IsAtRest m
   pub apart : HasOwnNumbers (state_of m)
-
--- nothing of events and versions is left to look at, and the rest is as before
-pub record IsUntouched (old new : Parts) : Type 0 where
-  pub events : new.loose.events ≡ []
-  pub versions : new.loose.versions ≡ []
-  pub runs : new.loose.runs ≡ old.loose.runs
-  pub wanting : new.wanting ≡ old.wanting

@@ -89,13 +89,10 @@ impl Machine {
     }
 
     // The bytes that are kept: of the events that runs and windows name, of the results of runs, and of remembered ids.
-    fn kept(&self) -> u64 {
-        let named = self
-            .parts
-            .texts
-            .bytes()
-            .saturating_add(self.parts.runs.results());
-        named.saturating_add(self.parts.seen.weight())
+    fn kept(&self) -> u64
+        ensures { result ≡ kept self.now }
+    {
+        self.parts.texts.bytes() + self.parts.runs.results() + self.parts.seen.weight()
     }
 
     /// Whether the machine as it stands takes an input, and if not, the first reason why.

@@ -1,17 +1,15 @@
 // Making a run: what its function and its first event decide, its rules, and its first item.
-ghost use Rattle.std.specs.Prelude.{◌≡◌, ◌≤◌, ◌+◌, [], map, unsigned_abs, IfOk, OnOk};
-ghost use Rattle.std.specs.Option.{option_copied, option_map};
-ghost use Rattle.event_keys.specs.Expressions.{most_shift};
-ghost use Rattle.event_texts.specs.Texts.{text_at, text_or_none};
-ghost use Rattle.kinds.specs.Cells.{IsStart};
+ghost use Rattle.std.specs.Prelude.{◌≡◌, ◌≤◌, ◌+◌, [], map, IfOk, OnOk};
+ghost use Rattle.std.specs.Option.{option_map};
 ghost use Rattle.machine.specs.Discovered.{IsDiscovered, discover_at};
 ghost use Rattle.machine.specs.Held.{Becomes, IsHeld};
-ghost use Rattle.machine.specs.Making.{AreDraftsFit, add_drafts, draft_of, plan_of};
+ghost use Rattle.machine.specs.Making.{AreDraftsFit, IsNewFit, add_draft, add_drafts, begin_run, draft_of, plan_of, planned};
 ghost use Rattle.machine.specs.View.{state_of};
 ghost use Rattle.machine.specs.Words.{make_at, queue_at, wants_at};
-ghost use Rattle.run_model.specs.Fit.{AreGiven};
+ghost use Rattle.run_model.specs.Fit.{AreGiven, IsBucketOf};
 ghost use Rattle.run_model.specs.Making.{discover, first_of, has_discovery, new_item, unless};
 ghost use Rattle.run_model.specs.State.{function_at, live_run};
+ghost use Rattle.runs.specs.Origin.{run_of};
 
 use crate::Parts;
 use event_keys::ReadEvent;
@@ -45,7 +43,8 @@ pub(crate) struct Plan {
 }
 
 impl Parts {
-    /// A run of a function's version, with events, is made now, where there is the version.
+    /// A run of a function's version, with events, is made now, where there is the version: its rules take numbers,
+    /// and then its first item.
     pub(crate) fn make_run(
         &mut self,
         version: u64,
@@ -58,20 +57,10 @@ impl Parts {
             (make_at (function_at version (state_of self.old)) events parent (state_of self.old)) self.old self.new) }
     {
         let first = first_of(events.as_slice());
-        let Some(entry) = self.versions.get(version) else {
+        let number = later(self.counts.runs, 1)?;
+        let Some(plan) = self.plan_run(version, first)? else {
             return Ok(());
         };
-        let text = self.texts.text_or_none(first);
-        let plan = plan_of(self.alloc, entry, text, self.moment)?;
-        self.add_run(plan, events, parent)
-    }
-
-    fn add_run(
-        &mut self,
-        plan: Plan,
-        events: Numbers,
-        parent: Option<Parent>,
-    ) -> Result<(), Memory> {
         let Plan {
             version,
             cells,
@@ -79,9 +68,6 @@ impl Parts {
             shift,
             rules,
         } = plan;
-        let number = self.counts.next_run()?;
-        let first = first_of(events.as_slice());
-        self.loose.touch(version, events.as_slice())?;
         let origin = Origin {
             number,
             moment: self.moment,
@@ -92,9 +78,37 @@ impl Parts {
             shift,
             parent,
         };
-        self.runs.add(Run::new(self.alloc, origin))?;
         self.add_rules(number, first, rules)?;
-        self.queue_new(number, STEP)
+        self.add_run(origin)
+    }
+
+    // What is decided of a run that is made now, whose first event this is.
+    fn plan_run(&self, version: u64, first: u64) -> Result<Option<Plan>, Memory>
+        ensures { IfOk result (λ plan. plan
+            ≡ option_map (planned first (state_of self.now)) (function_at version (state_of self.now))) }
+    {
+        let Some(entry) = self.versions.get(version) else {
+            return Ok(None);
+        };
+        let text = self.texts.text_or_none(first);
+        Ok(Some(plan_of(self.alloc, entry, text, self.moment)?))
+    }
+
+    // The run that has the next number is there from now on, with its first item.
+    fn add_run(&mut self, origin: Origin) -> Result<(), Memory>
+        requires held { IsHeld self.old }
+        requires next { origin.number ≡ self.old.counts.runs + 1 }
+        requires fit { IsNewFit (state_of self.old) (run_of origin) }
+        ensures { OnOk result (Becomes (begin_run (run_of origin) (state_of self.old)) self.old self.new) }
+    {
+        self.loose
+            .touch(origin.version, origin.events.as_slice())?;
+        self.counts.runs = origin.number;
+        let run = Run::new(self.alloc, origin);
+        let item = self.item_of(&run, STEP)?;
+        self.counts.entries = item.number;
+        self.runs.add(run)?;
+        self.admission.add(item)
     }
 
     // Each takes the next number.
@@ -106,18 +120,27 @@ impl Parts {
             (Becomes (add_drafts run first rules (state_of self.old)) self.old self.new) }
     {
         for rule in rules {
-            let number = self.counts.next_entry()?;
-            self.rules.add(Rule {
-                number,
-                run,
-                first,
-                name: rule.name,
-                cond: rule.cond,
-                due: rule.due,
-                bucket: rule.bucket,
-            })?;
+            self.add_rule(run, first, rule)?;
         }
         Ok(())
+    }
+
+    fn add_rule(&mut self, run: u64, first: u64, rule: Draft) -> Result<(), Memory>
+        requires held { IsHeld self.old }
+        requires given { first ≤ self.old.counts.events }
+        requires fit { IsBucketOf self.old.texts.texts first rule.cond rule.bucket }
+        ensures { OnOk result (Becomes (add_draft run first rule (state_of self.old)) self.old self.new) }
+    {
+        let number = self.counts.next_entry()?;
+        self.rules.add(Rule {
+            number,
+            run,
+            first,
+            name: rule.name,
+            cond: rule.cond,
+            due: rule.due,
+            bucket: rule.bucket,
+        })
     }
 
     /// An item of a run is made now, for a planned step or to find out what comes next.
@@ -139,14 +162,18 @@ impl Parts {
         ensures { IfOk result (λ item. item ≡ option_map
             (λ r. new_item r target.now (state_of self.now)) (live_run run (state_of self.now))) }
     {
-        let Some(run) = self.runs.live(run) else {
-            return Ok(None);
-        };
-        let Some(number) = self.counts.entries.checked_add(1) else {
-            return Err(Memory);
-        };
-        Ok(Some(Item {
-            number,
+        match self.runs.live(run) {
+            Some(run) => Ok(Some(self.item_of(run, target)?)),
+            None => Ok(None),
+        }
+    }
+
+    // An item of a run that is made now.
+    fn item_of(&self, run: &Run, target: &[u8]) -> Result<Item, Memory>
+        ensures { IfOk result (λ item. item ≡ new_item run.now target.now (state_of self.now)) }
+    {
+        Ok(Item {
+            number: later(self.counts.entries, 1)?,
             run: run.number(),
             target: Bytes::from_slice(self.alloc, target)?,
             attempt: 0,
@@ -154,7 +181,7 @@ impl Parts {
             score: run.score(),
             cells: cells_of(self.alloc, run)?,
             start: start_of(run)?,
-        }))
+        })
     }
 
     /// Each run that wants to find out what comes next and has no item for that gets one, in order of run.
