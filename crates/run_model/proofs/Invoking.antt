@@ -1,6 +1,6 @@
--- The step of an invoked run's parent is over, or waits for it, and the child of each invocation is there: at each change,
--- and so through each step.
-use Rattle.std.proofs.Common.{◌≡◌, ℕ, ◌⊎◌, inl, inr, ◌+◌, ◌≤◌, ◌==◌, Bool, true, false, not, ◌&&◌, ◌||◌, cond, List, [], ◌∷◌, ◌++◌, map, filter, find, codes, Option, Some, None, IfSome, is_some, option_map, refl, sym, ap, ◌∙◌, subst, bytes_eq, arith, eq-eqb, eqb-true}
+-- The step of an invoked run's parent is over, or waits for it, and the child of each invocation is there: at each
+-- change, and so through each step.
+use Rattle.std.proofs.Common.{◌≡◌, ℕ, ◌⊎◌, inl, inr, ◌+◌, ◌≤◌, ◌==◌, Bool, true, false, not, ◌&&◌, ◌||◌, cond, List, [], ◌∷◌, ◌++◌, filter, find, codes, Option, Some, None, IfSome, is_some, option_map, refl, sym, ap, ◌∙◌, subst, bytes_eq, arith, eq-eqb, eqb-true}
 use Rattle.std.specs.List.{AllByRecursion, list_any}
 use Rattle.std.specs.Option.{option_and_then}
 use Rattle.kinds.specs.Inputs.{reading}
@@ -20,26 +20,26 @@ use Rattle.lists.proofs.Elements.{all-both, all-filter, all-last, all-weaker, fi
 use Rattle.lists.proofs.Texts.{bytes_same, bytes_self}
 use Rattle.run_model.specs.Advance.{timed_out, without_invocation, without_sleep, without_window}
 use Rattle.run_model.specs.Ends.{end_run, is_invocation_of, without_invocation_of}
-use Rattle.run_model.specs.Events.{add_event, end_wait, event_with, without_wait}
+use Rattle.run_model.specs.Events.{add_event, event_with, without_wait}
 use Rattle.run_model.specs.Laws.{IsIn}
 use Rattle.run_model.specs.Machine.{fold, state_after, step}
 use Rattle.run_model.specs.Making.{make_run}
-use Rattle.run_model.specs.Recording.{change_run, changed, is_pending_in, record_in, record_result, result_for, wake_step}
+use Rattle.run_model.specs.Recording.{changed, is_pending_in, record_in, record_result, result_for, wake_step}
 use Rattle.run_model.specs.Replies.{invoke_found, invoked_event, pend, want, with_plan, with_steps}
 use Rattle.run_model.specs.Requests.{remember}
 use Rattle.run_model.specs.Settle.{called}
 use Rattle.run_model.specs.Sound.{Invokes, IsAwaited, is_child, is_for, is_parent_of}
-use Rattle.run_model.specs.State.{State, Run, Sleep, Waiting, Invocation, empty, live_run, moment_at, tidied}
-use Rattle.run_model.proofs.Awaiting.{Awaits, HasTold, Stands, adds-new, awaits-empty, awaits-steps, found-more, found-some, invocation_hash, invocation_run, keeps-awaits, stand-pended, waits-entry, woken}
+use Rattle.run_model.specs.State.{State, Run, Invocation, empty, live_run, moment_at, tidied}
+use Rattle.run_model.proofs.Awaiting.{Awaits, HasTold, Stands, awaits-empty, awaits-steps, found-more, found-some, invocation_hash, invocation_run, keeps-awaits, stand-pended, waits-entry, woken}
 use Rattle.run_model.proofs.FitEvents.{find-last, none-left}
 use Rattle.run_model.proofs.FitWindows.{not-true}
 use Rattle.run_model.proofs.GoingOn.{Has, in-kept, in-map, same-one}
 use Rattle.run_model.proofs.Kept.{Adds, Ending, IsLive, IsUntold, Keeps, kept-make_run, kept-woken, made-live, run_from, window_after, with_offer}
 use Rattle.run_model.proofs.KeptReplies.{dropping}
 use Rattle.run_model.proofs.KeptSteps.{KeepsSteps, kept-step}
-use Rattle.run_model.proofs.Members.{all-in, all-map, any-in, each-in, in-all, in-either, in-filter, in-found, in-front, in-last}
+use Rattle.run_model.proofs.Members.{all-in, all-map, any-in, in-all, in-filter, in-found, in-front, in-last}
 use Rattle.run_model.proofs.Rising.{Rise, invocation_number, invoked, run_number}
-use Rattle.run_model.proofs.SettlingLists.{find-filter, found-passes, or-left, or-right, same-some}
+use Rattle.run_model.proofs.SettlingLists.{find-filter, found-passes, or-left, or-right}
 use Rattle.run_model.proofs.Unrecorded.{change, change-number, found-changed}
 
 -- ## What holds
@@ -298,7 +298,8 @@ ended-untold r status s live awaits untold h =
     test i = not (r.number == i.run)
 
     of_test : (i : Invocation) → IsIn i s.invocations → (b : Bool) → (r.number == i.run) ≡ b
-        → IsIn i (filter (λ (e : Invocation). not (r.number == e.run)) s.invocations) ⊎ (((r.number == i.run) ≡ true) ⊎ ⊥)
+        → IsIn i (filter (λ (e : Invocation). not (r.number == e.run)) s.invocations)
+        ⊎ (((r.number == i.run) ≡ true) ⊎ ⊥)
     of_test i there true e = inr (inl e)
     of_test i there false e =
         inl (in-kept (λ (e : Invocation). not (r.number == e.run)) i s.invocations there (ap not e))
@@ -368,7 +369,8 @@ ended-told r p result status s live rise parent h =
 
     of_tests : (child : ℕ) (o : Parent) (i : Invocation) → IsIn i s.invocations → is_for child o i ≡ true
         → (a b : Bool) → (r.number == i.run) ≡ a → is_invocation_of p i ≡ b
-        → IsIn i (filter (λ i. not (is_invocation_of p i)) (filter (λ (e : Invocation). not (r.number == e.run)) s.invocations))
+        → IsIn i (filter (λ i. not (is_invocation_of p i))
+        (filter (λ (e : Invocation). not (r.number == e.run)) s.invocations))
         ⊎ (((r.number == i.run) ≡ true) ⊎ OverOf p child o.run o.hash)
     of_tests child o i there own true b ea eb = inr (inl ea)
     of_tests child o i there own false true ea eb =
@@ -376,7 +378,8 @@ ended-told r p result status s live rise parent h =
         let its : (p.run ≡ i.run) × (p.hash ≡ i.hash) = of-parts p i eb in
         inr (inr (mine.0 ∙ sym its.0, mine.1 ∙ sym its.1))
     of_tests child o i there own false false ea eb =
-        inl (in-kept (λ i. not (is_invocation_of p i)) i (filter (λ (e : Invocation). not (r.number == e.run)) s.invocations)
+        inl (in-kept (λ i. not (is_invocation_of p i)) i
+        (filter (λ (e : Invocation). not (r.number == e.run)) s.invocations)
         (in-kept (λ (e : Invocation). not (r.number == e.run)) i s.invocations there (ap not ea)) (ap not eb))
 
     childless : (i : Invocation) → not (is_invocation_of p i) ≡ true → is_child_of i r ≡ false
@@ -483,7 +486,8 @@ invoked-invoked f r name payload t s live new awaits told h =
     (invoked-started Over f (event.number ∷ []) parent before told
     (any-found Over before (run_from f (event.number ∷ []) parent before))
     (invoked-changed NoneOver Over r.number (λ q. with_steps (pend_step name pending.Invocation q.steps) q) s.live
-    s.invocations s.invocations (grows-same _ (λ q. refl) (λ q. refl) (λ q. refl)) (λ child run hash q found over. absurd over)
+    s.invocations s.invocations (grows-same _ (λ q. refl) (λ q. refl) (λ q. refl))
+    (λ child run hash q found over. absurd over)
     (λ i there. inl there) (λ i there. there) h)) in
     record {
       parents = all-weaker (λ (q : Run). HasHeld Over made.live made.invocations q.number q.parent)
@@ -534,7 +538,8 @@ invoked-invoked f r name payload t s live new awaits told h =
         inr (inr (m.0, (in-front m.0 u.invocations (e ∷ []) m.1.0, m.1.1)))
 
     has-added : (u : State) (e : Invocation) (child : ℕ) (parent : Option Parent) → e.child ≡ s.runs + 1
-        → e.run ≡ r.number → e.hash ≡ name → HasHeld (OverNew (s.runs + 1) r.number name) u.live u.invocations child parent
+        → e.run ≡ r.number → e.hash ≡ name
+        → HasHeld (OverNew (s.runs + 1) r.number name) u.live u.invocations child parent
         → HasHeld NoneOver u.live (u.invocations ++ e ∷ []) child parent
     has-added u e child None a b c m = tt
     has-added u e child (Some p) a b c m = added u e child p (find (λ (x : Run). p.run == x.number) u.live) a b c m

@@ -11,6 +11,7 @@ use Rattle.run_model.proofs.Awaiting.{Awaits, awaits-fold}
 use Rattle.run_model.proofs.AwaitingOnce.{awaits-once, wakes-all}
 use Rattle.run_model.proofs.Dated.{all-dated, all-named}
 use Rattle.run_model.proofs.Discovered.{live-go_on, wanted-found}
+use Rattle.run_model.proofs.EntryNumbers.{apart-fold}
 use Rattle.run_model.proofs.Invoking.{invoked-fold}
 use Rattle.run_model.proofs.Limits.{limited-fold}
 use Rattle.run_model.proofs.OfLive.{of-fold}
@@ -49,6 +50,7 @@ reached limits inputs =
       dated = all-dated limits inputs;
       named = all-named limits inputs;
       of_live = of-fold limits inputs;
+      apart = apart-fold limits inputs;
       invocations_held = invoked-fold limits inputs;
       remembered = seen-fold limits inputs;
       limits = limited-fold limits inputs;

@@ -1,5 +1,5 @@
--- No name of a run is recorded twice, none that is recorded waits, and no run has too many names: at each change, and so
--- through each step.
+-- No name of a run is recorded twice, none that is recorded waits, and no run has too many names: at each change, and
+-- so through each step.
 use Rattle.std.proofs.Common.{◌≡◌, ◌≢◌, ℕ, inl, inr, ◌+◌, ◌≤◌, ◌==◌, Bool, true, false, not, ◌||◌, cond, List, [], ◌∷◌, find, length, codes, Option, Some, None, is_some, refl, sym, ap, ◌∙◌, subst, nat_le, bytes_eq, arith, eq-eqb}
 use Rattle.std.specs.BTreeMap.{insert_entry, is_at}
 use Rattle.std.specs.BTreeSet.{insert_key}
@@ -209,7 +209,8 @@ other-result name result other t new =
     by_tests (is_recorded name t || is_pending name t) (is_planned name t) (nat_le most_names (names t)) new
   where
     by_tests : (a b c : Bool)
-        → Adds (cond a known (cond b (adds (record_step name result t)) (cond c full (adds (record_step name result t)))))
+        → Adds (cond a known (cond b (adds (record_step name result t))
+        (cond c full (adds (record_step name result t)))))
         → Adds (cond a known (cond b (adds (record_step name other t)) (cond c full (adds (record_step name other t)))))
     by_tests true b c k = absurd k
     by_tests false true c k = tt
@@ -221,7 +222,8 @@ unrecorded-new : (name result : List ℕ) (t : RunSteps) → Adds (keep_step nam
 unrecorded-new name result t new = by_tests (is_recorded name t) (is_pending name t) (is_planned name t) refl new
   where
     by_tests : (a c b : Bool) → is_recorded name t ≡ a
-        → Adds (cond (a || c) known (cond b (adds (record_step name result t)) (with_room (record_step name result t) t)))
+        → Adds (cond (a || c) known (cond b (adds (record_step name result t))
+        (with_room (record_step name result t) t)))
         → is_recorded name t ≡ false
     by_tests true c b e k = absurd k
     by_tests false c b e k = e
@@ -377,7 +379,8 @@ ending-order r status s live h =
       tells = λ p q result parent there waits. (
         rises.tells p q result parent there waits,
         order-recorded p.run p.hash result q (without_invocation_of p (end_run r status s))
-            (rise-goes.invocations_go (λ i. not (is_invocation_of p i)) (end_run r status s) (rise-ended r status s h.0)) there waits
+            (rise-goes.invocations_go (λ i. not (is_invocation_of p i)) (end_run r status s)
+            (rise-ended r status s h.0)) there waits
             ended,
       );
     }
@@ -428,7 +431,8 @@ keeps-order = record {
     keeps-rise.results r name result s live new h.0,
     order-one r.number r (record_in name result) s h.0 live
         (λ k. orderly-recorded name (result_for result r) r.steps (unrecorded-new name result r.steps new)
-        (room-new name (result_for result r) r.steps (other-result name result (result_for result r) r.steps new) k.room)
+        (room-new name (result_for result r) r.steps (other-result name result (result_for result r) r.steps new)
+        k.room)
         k) h.1,
   );
   sleep_ends = λ e s there h. (

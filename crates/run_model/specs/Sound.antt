@@ -378,9 +378,10 @@ pub record IsSound (s : State) : Type 0 where
 -- ## What is proved of them
 
 -- Of each state that is reached, whatever inputs there were, this is a law: the third, fourth, sixth, eighth, tenth,
--- thirteenth, sixteenth, nineteenth and twentieth condition, and parts of others: numbers that rise, runs that end once, wanted
--- runs, events of runs and windows, and remembered ids. The ninth is one where functions are in range and fewer than
--- 2^64 entries were numbered; that functions have ids of their own is one where no registration names an id twice.
+-- twelfth, thirteenth, sixteenth, nineteenth and twentieth condition, and parts of others: numbers that rise, runs that
+-- end once, wanted runs, events of runs and windows, and remembered ids. The ninth is one where functions are in range
+-- and fewer than 2^64 entries were numbered; that functions have ids of their own is one where no registration names
+-- an id twice.
 pub record IsReached (s : State) : Type 0 where
   pub versions : RiseTo s.versions (map version_of s.functions)
   pub texts : RiseTo s.events (map (λ (e : EventText). e.number) s.texts)
@@ -398,6 +399,7 @@ pub record IsReached (s : State) : Type 0 where
   pub going : AllByRecursion (λ r. can_go_on s r ≡ true) s.live
   pub dated : IsDated s
   pub named : HasEvents s
+  pub apart : ArePairwise (λ n later. n ≢ later) (entry_numbers s)
   pub of_live : AreOfLive s
   pub invocations_held : Invokes s
   pub remembered : RemembersOnce s

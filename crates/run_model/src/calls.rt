@@ -27,7 +27,8 @@ pub fn recorded_steps_are_not_called()
         (step (fold limits inputs) input).outs }
 {}
 
-/// In each state that is reached, no name of a run that has not ended is recorded twice, and none that is recorded waits.
+/// In each state that is reached, no name of a run that has not ended is recorded twice, and none that is recorded
+/// waits.
 pub fn steps_are_recorded_once()
     ensures { (limits : Limits) (inputs : List Input) → AllByRecursion RecordsOnce (fold limits inputs).live }
 {}

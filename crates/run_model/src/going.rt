@@ -32,8 +32,8 @@ pub fn live_runs_can_go_on()
         AllByRecursion (λ r. can_go_on (fold limits inputs) r ≡ true) (fold limits inputs).live }
 {}
 
-/// The step of an invoked run's parent is recorded, or waits for it, where the parent has not ended; and the child of each
-/// invocation is a run that has not ended, whose parent is the invocation's run and step.
+/// The step of an invoked run's parent is recorded, or waits for it, where the parent has not ended; and the child of
+/// each invocation is a run that has not ended, whose parent is the invocation's run and step.
 pub fn invocations_have_children()
     ensures { (limits : Limits) (inputs : List Input) → Invokes (fold limits inputs) }
 {}

@@ -21,8 +21,8 @@ pub use going::{
     what_falls_due_is_recorded, what_waits_is_pending,
 };
 pub use items::{
-    ended_calls_leave_items_aside, items_have_own_numbers, items_keep_own_numbers,
-    operations_leave_items_aside,
+    ended_calls_leave_items_aside, entries_have_own_numbers, items_have_own_numbers,
+    items_keep_own_numbers, operations_leave_items_aside,
 };
 pub use laws::{
     current_functions_have_own_ids, numbers_are_counted, numbers_stay_counted,
