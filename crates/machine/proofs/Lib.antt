@@ -2,6 +2,7 @@ pub mod Changed
 pub mod Discovered
 pub mod Empty
 pub mod EndWords
+pub mod Fired
 pub mod Found
 pub mod Gone
 pub mod HeldEnds
@@ -18,11 +19,14 @@ pub mod HeldRequests
 pub mod HeldRuns
 pub mod HeldSettle
 pub mod HeldTidy
+pub mod HeldTime
 pub mod HeldWords
 pub mod Joined
 pub mod Lists
 pub mod Matched
+pub mod Next
 pub mod NextHeld
+pub mod Over
 pub mod Pended
 pub mod Raised
 pub mod Replied

@@ -8,6 +8,7 @@ pub mod Numbers
 pub mod Offers
 pub mod Operations
 pub mod Replies
+pub mod Steps
 pub mod Tidy
 pub mod Versions
 pub mod View

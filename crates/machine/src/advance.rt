@@ -1,37 +1,39 @@
 // Time goes on: what is due happens, the least by moment and number first, each at its own moment.
-ghost use Rattle.std.specs.Prelude.{◌≡◌, ◌≤◌, ◌++◌, map, find, Some, OnOk};
+ghost use Rattle.std.specs.Prelude.{◌≡◌, ◌≤◌, ◌++◌, map, find, IfOk, OnOk};
 ghost use Rattle.std.specs.Option.{option_map};
 ghost use Rattle.awaited.specs.Entries.{invocation_number, sleep_number, waiting_number};
 ghost use Rattle.kinds.specs.Moments.{last_moment};
-ghost use Rattle.kinds.specs.Windows.{has_number};
-ghost use Rattle.lists.specs.Entries.{has};
-ghost use Rattle.machine.specs.Advance.{fire_at, hang, hung_at, invocation_over, moved, next_by, sleep_over, sooner, wait_over, window_over};
+ghost use Rattle.kinds.specs.Windows.{fired, has_number, number_of};
+ghost use Rattle.lists.specs.Entries.{AreApart, has};
+ghost use Rattle.machine.specs.Advance.{AreAwaitedApart, Arrives, IsDue, due_at, due_within, hang, hangs_of, invocation_over, limited, moved, next_by, next_from, over_by, sleep_over, sooner, wait_over, window_over};
 ghost use Rattle.machine.specs.Held.{Becomes, IsHeld};
 ghost use Rattle.machine.specs.View.{state_of};
-ghost use Rattle.run_model.specs.Advance.{advance, due_by, least, timed};
+ghost use Rattle.run_model.specs.Advance.{advance, due_by, least, timed, without_invocation, without_rule, without_sleep, without_window};
 ghost use Rattle.run_model.specs.Fit.{HasOwnNumbers};
 ghost use Rattle.run_model.specs.Next.{due_next};
 ghost use Rattle.run_model.specs.State.{at_moment};
 
 use crate::Parts;
 use crate::results::{data_result, error_result};
-use kinds::{Due, Out, Steps, error_object};
+use admission::CallLimit;
+use awaited::{Invocation, Sleep};
+use kinds::{Due, Fired, Out, Steps, error_object};
 use lists::{Bytes, Items, Memory};
 use std::sync::ledger::Ledger;
 
-/// What is due next.
+/// What is due.
 #[derive(Clone, Copy)]
 enum Timed {
-    Sleep(u64),
-    Wait(u64),
-    Invocation(u64),
-    Window(u64),
-    Rule(u64),
+    Sleep,
+    Wait,
+    Invocation,
+    Window,
+    Rule,
     /// A call.
     Limit(u64),
 }
 
-/// What is due next, and when.
+/// What is due next, by its number, and when.
 #[derive(Clone, Copy)]
 struct Next {
     due: u64,
@@ -40,7 +42,8 @@ struct Next {
 }
 
 impl Parts {
-    /// Time goes on to a moment.
+    /// Time goes on to a moment. The numbers of entries end before what is due does, so 2^64 turns count as want of
+    /// memory.
     pub(crate) fn advance<L: Ledger>(
         &mut self,
         moment: u64,
@@ -49,11 +52,9 @@ impl Parts {
     ) -> Result<(), Memory>
         requires held { IsHeld self.old }
         requires apart { HasOwnNumbers (state_of self.old) }
-        requires later { self.old.moment ≤ moment }
+        requires later { self.old.admission.moment ≤ moment }
         requires near { moment ≤ last_moment }
-        ensures state { OnOk result (state_of self.new ≡ (advance moment (state_of self.old)).state) }
-        ensures held { OnOk result (IsHeld self.new) }
-        ensures now { OnOk result (self.new.admission.moment ≡ self.new.moment) }
+        ensures now { OnOk result (Arrives (advance moment (state_of self.old)).state self.new) }
         ensures outs { OnOk result (outs.new
             ≡ outs.old ++ map hang (advance moment (state_of self.old)).hangs) }
     {
@@ -63,17 +64,15 @@ impl Parts {
             };
             self.fire(next, outs, steps)?;
         }
-        self.arrive(moment)
+        Err(Memory)
     }
 
     // The ids run out that no longer tell a repeated event, and the throttles that tell nothing of later starts.
     fn arrive(&mut self, moment: u64) -> Result<(), Memory>
         requires held { IsHeld self.old }
-        requires later { self.old.moment ≤ moment }
+        requires later { self.old.admission.moment ≤ moment }
         requires near { moment ≤ last_moment }
-        ensures state { OnOk result (state_of self.new ≡ at_moment moment (state_of self.old)) }
-        ensures held { OnOk result (IsHeld self.new) }
-        ensures now { OnOk result (self.new.admission.moment ≡ self.new.moment) }
+        ensures { OnOk result (Arrives (at_moment moment (state_of self.old)) self.new) }
     {
         self.moment = moment;
         self.seen.forget(moment);
@@ -82,55 +81,35 @@ impl Parts {
 
     // The next, where it is due by a moment.
     fn due_by(&self, moment: u64) -> Option<Next>
-        requires held { IsHeld self.now }
-        ensures { result ≡ option_map next_by (due_by moment (state_of self.now)) }
+        ensures due { IsDue moment (state_of self.now) result }
+        ensures numbers { AreAwaitedApart (state_of self.now) }
     {
-        let next = self.next()?;
-        if next.due <= moment { Some(next) } else { None }
+        within(self.next(), moment)
     }
 
     // The least by moment and number of all that is due.
     fn next(&self) -> Option<Next>
-        requires held { IsHeld self.now }
-        ensures { result ≡ option_map next_by (least (timed (state_of self.now))) }
+        ensures least { result ≡ option_map next_by (least (timed (state_of self.now))) }
+        ensures numbers { AreAwaitedApart (state_of self.now) }
     {
-        let sleep = self
-            .sleeps
-            .first()
-            .map(|due| next_of(due, Timed::Sleep(due.number)));
-        let wait = self
-            .waits
-            .first()
-            .map(|due| next_of(due, Timed::Wait(due.number)));
-        let invocation = self
-            .invocations
-            .first()
-            .map(|due| next_of(due, Timed::Invocation(due.number)));
-        let window = self
-            .windows
-            .first()
-            .map(|due| next_of(due, Timed::Window(due.number)));
-        let rule = self
-            .rules
-            .first()
-            .map(|due| next_of(due, Timed::Rule(due.number)));
-        let limit = self.admission.first_limit().map(|limit| Next {
-            due: limit.due,
-            number: limit.number,
-            entry: Timed::Limit(limit.call),
-        });
-        let awaited = earlier(sleep, earlier(wait, invocation));
-        earlier(awaited, earlier(window, earlier(rule, limit)))
+        let sleep = next_of(self.sleeps.first(), Timed::Sleep);
+        let wait = next_of(self.waits.first(), Timed::Wait);
+        let invocation = next_of(self.invocations.first(), Timed::Invocation);
+        let window = next_of(self.windows.first(), Timed::Window);
+        let rule = next_of(self.rules.first(), Timed::Rule);
+        let limit = limit_of(self.admission.first_limit());
+        let awaited = earlier(earlier(sleep, wait), invocation);
+        earlier(earlier(earlier(awaited, window), rule), limit)
     }
 
     /// When something is due next.
     pub(crate) fn next_due(&self) -> Option<u64>
-        requires held { IsHeld self.now }
         ensures { result ≡ due_next (least (timed (state_of self.now))) }
     {
-        Some(self.next()?.due)
+        due_of(self.next())
     }
 
+    // What is due next happens, at its own moment.
     fn fire<L: Ledger>(
         &mut self,
         next: Next,
@@ -139,28 +118,43 @@ impl Parts {
     ) -> Result<(), Memory>
         requires held { IsHeld self.old }
         requires apart { HasOwnNumbers (state_of self.old) }
-        requires least { Some next ≡ option_map next_by (least (timed (state_of self.old))) }
-        requires later { self.old.moment ≤ next.due }
+        requires numbers { AreAwaitedApart (state_of self.old) }
         requires near { next.due ≤ last_moment }
-        ensures state { OnOk result (Becomes (fire_at (least (timed (state_of self.old)))
+        ensures state { OnOk result (Becomes (over_by next.entry next.number
             (moved next.due (state_of self.old))) self.old self.new) }
-        ensures outs { OnOk result (outs.new
-            ≡ outs.old ++ map hang (hung_at (least (timed (state_of self.old))))) }
+        ensures outs { OnOk result (outs.new ≡ outs.old ++ hangs_of next.entry) }
     {
-        self.moment = next.due;
+        say_hang(next.entry, outs)?;
+        self.go_to(next.due);
+        self.end(next, steps)
+    }
+
+    fn go_to(&mut self, moment: u64)
+        requires held { IsHeld self.old }
+        requires near { moment ≤ last_moment }
+        ensures { Becomes (moved moment (state_of self.old)) self.old self.new }
+    {
+        self.moment = moment;
+    }
+
+    // What is due is over.
+    fn end<L: Ledger>(&mut self, next: Next, steps: &mut Steps<L>) -> Result<(), Memory>
+        requires held { IsHeld self.old }
+        requires apart { HasOwnNumbers (state_of self.old) }
+        requires numbers { AreAwaitedApart (state_of self.old) }
+        ensures { OnOk result (Becomes
+            (over_by next.entry next.number (state_of self.old)) self.old self.new) }
+    {
         match next.entry {
-            Timed::Sleep(number) => self.end_sleep(number),
-            Timed::Wait(number) => self.end_wait(number),
-            Timed::Invocation(number) => self.end_invocation(number),
-            Timed::Window(number) => self.end_window(number),
-            Timed::Rule(number) => {
-                self.rules.remove(number);
+            Timed::Sleep => self.end_sleep(next.number),
+            Timed::Wait => self.end_wait(next.number),
+            Timed::Invocation => self.end_invocation(next.number),
+            Timed::Window => self.end_window(next.number),
+            Timed::Rule => {
+                self.end_rule(next.number);
                 Ok(())
             }
-            Timed::Limit(call) => {
-                outs.push(Out::Hang { call })?;
-                self.fail_call(call, b"call limit", steps)
-            }
+            Timed::Limit(call) => self.fail_call(call, b"call limit", steps),
         }
     }
 
@@ -169,7 +163,7 @@ impl Parts {
         ensures { OnOk result (Becomes
             (sleep_over (find (has sleep_number number) self.old.sleeps) (state_of self.old)) self.old self.new) }
     {
-        let Some(sleep) = self.sleeps.remove(number) else {
+        let Some(sleep) = self.take_sleep(number) else {
             return Ok(());
         };
         let result = Bytes::from_slice(self.alloc, b"null")?;
@@ -177,12 +171,20 @@ impl Parts {
         self.discover()
     }
 
+    fn take_sleep(&mut self, number: u64) -> Option<Sleep>
+        requires held { IsHeld self.old }
+        ensures value { result ≡ find (has sleep_number number) self.old.sleeps }
+        ensures now { Becomes (without_sleep number (state_of self.old)) self.old self.new }
+    {
+        self.sleeps.remove(number)
+    }
+
     fn end_wait(&mut self, number: u64) -> Result<(), Memory>
         requires held { IsHeld self.old }
         ensures { OnOk result (Becomes
             (wait_over (find (has waiting_number number) self.old.waits) (state_of self.old)) self.old self.new) }
     {
-        let Some(waiting) = self.waits.remove(number) else {
+        let Some(waiting) = self.take_wait(number) else {
             return Ok(());
         };
         let result = data_result(self.alloc, b"null")?;
@@ -196,7 +198,7 @@ impl Parts {
         ensures { OnOk result (Becomes (invocation_over
             (find (has invocation_number number) self.old.invocations) (state_of self.old)) self.old self.new) }
     {
-        let Some(invocation) = self.invocations.remove(number) else {
+        let Some(invocation) = self.take_invocation(number) else {
             return Ok(());
         };
         let error = error_object(self.alloc, b"invocation timed out")?;
@@ -205,26 +207,91 @@ impl Parts {
         self.discover()
     }
 
+    fn take_invocation(&mut self, number: u64) -> Option<Invocation>
+        requires held { IsHeld self.old }
+        ensures value { result ≡ find (has invocation_number number) self.old.invocations }
+        ensures now { Becomes (without_invocation number (state_of self.old)) self.old self.new }
+    {
+        self.invocations.remove(number)
+    }
+
     // A window makes its run.
     fn end_window(&mut self, number: u64) -> Result<(), Memory>
         requires held { IsHeld self.old }
+        requires numbers { AreApart number_of self.old.windows }
         ensures { OnOk result (Becomes
             (window_over (find (has_number number) self.old.windows) (state_of self.old)) self.old self.new) }
     {
-        let Some(fired) = self.windows.fire(number) else {
+        let Some(fired) = self.take_window(number)? else {
             return Ok(());
         };
-        self.loose.touch(fired.version, fired.events.as_slice())?;
         self.make_run(fired.version, fired.events, None)
+    }
+
+    fn take_window(&mut self, number: u64) -> Result<Option<Fired>, Memory>
+        requires held { IsHeld self.old }
+        requires numbers { AreApart number_of self.old.windows }
+        ensures value { IfOk result (λ w. w ≡ option_map fired (find (has_number number) self.old.windows)) }
+        ensures now { OnOk result (Becomes (without_window number (state_of self.old)) self.old self.new) }
+    {
+        let Some(fired) = self.windows.fire(number) else {
+            return Ok(None);
+        };
+        self.loose.touch(fired.version, fired.events.as_slice())?;
+        Ok(Some(fired))
+    }
+
+    fn end_rule(&mut self, number: u64)
+        requires held { IsHeld self.old }
+        ensures { Becomes (without_rule number (state_of self.old)) self.old self.new }
+    {
+        self.rules.remove(number);
     }
 }
 
-fn next_of(due: Due, entry: Timed) -> Next {
-    Next {
+// The connection of a call past its limit is hung.
+fn say_hang(entry: Timed, outs: &mut Items<Out>) -> Result<(), Memory>
+    ensures { OnOk result (outs.new ≡ outs.old ++ hangs_of entry) }
+{
+    match entry {
+        Timed::Limit(call) => outs.push(Out::Hang { call }),
+        Timed::Sleep | Timed::Wait | Timed::Invocation | Timed::Window | Timed::Rule => Ok(()),
+    }
+}
+
+fn next_of(first: Option<Due>, entry: Timed) -> Option<Next>
+    ensures { result ≡ option_map (next_from entry) first }
+{
+    let due = first?;
+    Some(Next {
         due: due.due,
         number: due.number,
         entry,
-    }
+    })
+}
+
+fn limit_of(first: Option<CallLimit>) -> Option<Next>
+    ensures { result ≡ option_map limited first }
+{
+    let limit = first?;
+    Some(Next {
+        due: limit.due,
+        number: limit.number,
+        entry: Timed::Limit(limit.call),
+    })
+}
+
+fn within(next: Option<Next>, moment: u64) -> Option<Next>
+    ensures { result ≡ due_within moment next }
+{
+    let next = next?;
+    if next.due <= moment { Some(next) } else { None }
+}
+
+fn due_of(next: Option<Next>) -> Option<u64>
+    ensures { result ≡ option_map due_at next }
+{
+    Some(next?.due)
 }
 
 // The first of two, where the other doesn't come before it.

@@ -1,13 +1,15 @@
 // One step: time goes on, the input acts, what may be issued is, and what nothing names any more goes.
-ghost use Rattle.std.specs.Prelude.{◌≡◌, ◌++◌, ◌∷◌, [], IfOk, OnOk};
+ghost use Rattle.std.specs.Prelude.{◌≡◌, ◌<◌, ◌^◌, ◌++◌, ◌∷◌, [], IfOk, OnOk};
 ghost use Rattle.kinds.specs.Answer.{ids_answer};
 ghost use Rattle.kinds.specs.Cells.{IsStart};
 ghost use Rattle.kinds.specs.declared.out.Out.TheVariants.{Answer};
 ghost use Rattle.machine.specs.Held.{Becomes, IsHeld, IsReady};
+ghost use Rattle.machine.specs.Steps.{due_now, first_item, without_first};
 ghost use Rattle.machine.specs.View.{state_of};
 ghost use Rattle.machine.specs.Words.{answering};
 ghost use Rattle.run_model.specs.Fit.{AreInRange, HasOwnNumbers, IsAside, IsInRange};
-ghost use Rattle.run_model.specs.Machine.{Accepts, act, is_changed, registered_answer, reopen, requeue_found, step, with_functions};
+ghost use Rattle.run_model.specs.Machine.{Accepts, act, count_input, is_changed, registered_answer, reopen, requeue_found, step, with_functions};
+ghost use Rattle.run_model.specs.Making.{queue};
 ghost use Rattle.run_model.specs.Requests.{cancel_found, on_events};
 ghost use Rattle.run_model.specs.State.{live_run};
 
@@ -49,12 +51,20 @@ impl Parts {
     {
         let mut outs = Items::new(self.alloc);
         let moment = self.moment.max(input.at().min(LAST_MOMENT));
-        self.counts.inputs += 1;
+        self.count_input();
         self.advance(moment, &mut outs, steps)?;
         self.act(input, &mut outs, steps)?;
         self.settle(&mut outs, steps)?;
         self.tidy()?;
         Ok(outs)
+    }
+
+    fn count_input(&mut self)
+        requires held { IsHeld self.old }
+        requires room { self.old.counts.inputs < 2 ^ 61 }
+        ensures { Becomes (count_input (state_of self.old)) self.old self.new }
+    {
+        self.counts.inputs += 1;
     }
 
     // What an input does.
@@ -146,12 +156,24 @@ impl Parts {
         requires apart { HasOwnNumbers (state_of self.old) }
         ensures { OnOk result (Becomes (reopen (state_of self.old)) self.old self.new) }
     {
-        while let Some(issue) = self.admission.take_first()? {
-            self.wanting.insert(issue.item.run)?;
-            self.loose.runs.insert(issue.item.run)?;
-            self.requeue(issue.item)?;
+        while let Some(item) = self.take_call()? {
+            self.requeue(item)?;
         }
         self.discover()
+    }
+
+    // The open call of least number is open no more. Gives the item that it was made for.
+    fn take_call(&mut self) -> Result<Option<Item>, Memory>
+        requires held { IsHeld self.old }
+        ensures item { IfOk result (λ item. item ≡ first_item (state_of self.old)) }
+        ensures now { OnOk result (Becomes (without_first (state_of self.old)) self.old self.new) }
+    {
+        let Some(issue) = self.admission.take_first()? else {
+            return Ok(None);
+        };
+        self.wanting.insert(issue.item.run)?;
+        self.loose.runs.insert(issue.item.run)?;
+        Ok(Some(issue.item))
     }
 
     // The item of an open call is queued again as it was, due now, or where its step is recorded it goes.
@@ -168,6 +190,16 @@ impl Parts {
         if has_recorded(run, item.target.as_slice()) {
             return self.want(item.run);
         }
+        self.queue_now(item)
+    }
+
+    fn queue_now(&mut self, item: Item) -> Result<(), Memory>
+        requires held { IsHeld self.old }
+        requires aside { IsAside item (state_of self.old) }
+        requires start { IsStart item.start }
+        ensures { OnOk result (Becomes
+            (queue (due_now item (state_of self.old)) (state_of self.old)) self.old self.new) }
+    {
         let due = self.moment;
         self.admission.add(Item { due, ..item })
     }
