@@ -21,6 +21,7 @@ pub mod HeldSettle
 pub mod HeldTidy
 pub mod HeldTime
 pub mod HeldWords
+pub mod Invoked
 pub mod Joined
 pub mod Lists
 pub mod Matched

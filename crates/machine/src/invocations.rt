@@ -3,7 +3,7 @@ ghost use Rattle.std.specs.Prelude.{◌≡◌, true, Some, IfOk, OnOk, codes};
 ghost use Rattle.std.specs.Option.{option_map};
 ghost use Rattle.functions.specs.Functions.{version_of};
 ghost use Rattle.json_text.specs.Text.{member_of};
-ghost use Rattle.kinds.specs.declared.store.Pending.TheVariants.{Invocation};
+ghost use Rattle.kinds.specs.declared.store.Pending.TheVariants as pending;
 ghost use Rattle.machine.specs.Held.{Becomes, IsHeld};
 ghost use Rattle.machine.specs.Operations.{await_child, invoke_at, invoke_current, invoke_version, make_child};
 ghost use Rattle.machine.specs.View.{state_of};
@@ -38,7 +38,7 @@ impl Parts {
     ) -> Result<Naming, Memory>
         requires held { IsHeld self.old }
         ensures named { IfOk result (λ n. n
-            ≡ naming_in (pend_in hash Invocation) (live_run run (state_of self.old))) }
+            ≡ naming_in (pend_in hash pending.Invocation) (live_run run (state_of self.old))) }
         ensures now { IfOk result (λ n. Becomes (if_new n
             (invoke_at (live_run run (state_of self.old)) hash function.now payload timeout (state_of self.old))
             (state_of self.old)) self.old self.new) }
@@ -165,6 +165,7 @@ impl Parts {
 }
 
 // The event of an invocation, with its payload's data.
+#[tactic(auto, using(crate::proofs::Invoked::payload_read, crate::proofs::Invoked::payload_unread))]
 fn invoked_event(alloc: Global, payload: &Option<Bytes>) -> Result<EventIn, Memory>
     ensures { IfOk result (λ event. event ≡ invoked_event payload.now) }
 {
