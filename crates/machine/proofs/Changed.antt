@@ -12,11 +12,11 @@ use Rattle.lists.specs.Entries.{has}
 use Rattle.runs.specs.Changes.{changed}
 use Rattle.runs.specs.Ended.{ended_number}
 use Rattle.runs.specs.Runs.{is_in, run_number}
-use Rattle.run_model.proofs.Members.{all-in, all-map}
+use Rattle.run_model.proofs.Members.{all-in}
 use Rattle.run_model.specs.Making.{is_item_of, step_target}
 use Rattle.run_model.specs.Recording.{without_item}
 use Rattle.run_model.specs.State.{Run, Issue, EventText, EndedRun}
-use Rattle.machine.specs.Held.{AreEndsRight, AreEventsRight, AreVersionsRight, AreWantsNoted, IsEventRight, is_event_used, is_event_named, is_left, is_version_in_use}
+use Rattle.machine.specs.Held.{AreEndsRight, AreEventsRight, AreVersionsRight, AreWantsNoted, IsEventRight, is_event_used, is_left, is_version_in_use}
 use Rattle.machine.specs.Numbers.{IsJoined, has_number}
 
 -- a change of marks and steps

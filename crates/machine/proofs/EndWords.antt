@@ -77,3 +77,23 @@ fails (Some r) error s =
     (content-told r error s t (first-told r r.parent (error_result error) ended)
     (function-told r r.parent (error_result error) ended))
     ∙ raises r error t
+
+-- ## The content of its event
+
+module _ (found : Option Run) (r : Run) (error first : List ℕ) (s : State) (there : found ≡ Some r)
+    (same : first ≡ first_text r s) where
+  abbrev content : List ℕ → List ℕ
+  content w = failed_content (function_id r s) (run_text r.moment r.number) error w
+
+  content-by : (b : Bool) → is_of_failure first ≡ b
+      → content_by b (content (first_text r s)) ≡ content_at found error s
+  content-by b is =
+      sym (ap (λ o. content_at o error s) there
+      ∙ ap (λ c. content_by c (content (first_text r s))) (ap is_of_failure (sym same) ∙ is))
+
+  pub content-none : is_of_failure first ≡ true → None ≡ content_at found error s
+  content-none is = content-by true is
+
+  pub content-some : (text : List ℕ) → is_of_failure first ≡ false → text ≡ content first
+      → Some text ≡ content_at found error s
+  content-some text is e = ap (λ w. Some w) (e ∙ ap content same) ∙ content-by false is

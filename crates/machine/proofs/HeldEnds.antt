@@ -16,20 +16,19 @@ use Rattle.kinds.specs.declared.store.Rule.{Rule}
 use Rattle.kinds.specs.declared.store.RunStatus.{RunStatus}
 use Rattle.kinds.specs.declared.window.Window.{Window}
 use Rattle.lists.proofs.Elements.{all-both, all-filter, all-last, all-weaker, filter-passes}
-use Rattle.lists.specs.Entries.{has, insert_by, without}
+use Rattle.lists.specs.Entries.{has, insert_by}
 use Rattle.runs.specs.Ended.{ended_number, outgoing}
 use Rattle.runs.specs.Runs.{RunLists, is_in, run_at, run_number, with_run}
 use Rattle.run_model.specs.Ends.{end_run, ended_run}
-use Rattle.run_model.specs.Fit.{IsRunFit}
 use Rattle.run_model.specs.Making.{is_item_of, step_target}
-use Rattle.run_model.specs.State.{State, Run, Issue, EndedRun, EventText, Invocation, Sleep, Waiting, live_run}
+use Rattle.run_model.specs.State.{Run, Issue, EndedRun, EventText, Invocation, Sleep, Waiting, live_run}
 use Rattle.run_model.proofs.FitEvents.{find-last}
 use Rattle.run_model.proofs.FitRuns.{all-inserted, fit-end_run, fit-found}
 use Rattle.run_model.proofs.Members.{all-in, in-all, in-found}
 use Rattle.run_model.proofs.SettlingLists.{found-passes}
 use Rattle.machine.specs.Ends.{ending_of}
 use Rattle.machine.specs.Held.{AreEndsRight, AreEventsRight, AreVersionsRight, AreWantsNoted, Becomes, IsClosing, IsEventRight, IsHeld, is_event_used, is_left, is_version_in_use}
-use Rattle.machine.specs.Numbers.{AreJoined, IsJoined, IsJoinedBy, IsTouched, Keeps, has_number}
+use Rattle.machine.specs.Numbers.{AreJoined, IsJoined, IsJoinedBy, Keeps, has_number}
 use Rattle.machine.specs.View.{state_of}
 use Rattle.machine.specs.Words.{end_at}
 use Rattle.machine.specs.declared.ends.Ending.{Ending}

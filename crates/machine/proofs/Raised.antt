@@ -1,5 +1,5 @@
 -- The parts after an event of the server's own.
-use Rattle.std.proofs.Common.{◌≡◌, ℕ, ◌+◌, ◌≤◌, ◌==◌, Bool, true, false, cond, List, [], ◌∷◌, ◌++◌, find, Option, Some, None, refl, sym, ap, ◌∙◌, arith, subst}
+use Rattle.std.proofs.Common.{◌≡◌, ℕ, ◌+◌, ◌≤◌, ◌==◌, true, false, cond, List, [], ◌∷◌, find, Option, Some, None, refl, ap, ◌∙◌, arith, subst}
 use Rattle.std.specs.List.{AllByRecursion}
 use Rattle.std.proofs.lemmas.Bool.{cond-false}
 use Rattle.std.proofs.lemmas.Bool.Decides.{nat_tests}
@@ -10,7 +10,7 @@ use Rattle.run_model.specs.Ends.{raise}
 use Rattle.run_model.specs.Events.{add_event, event_with, follow}
 use Rattle.run_model.specs.Fit.{IsFit}
 use Rattle.run_model.specs.Recording.{at_the_end}
-use Rattle.run_model.specs.State.{State, EventText, text_of}
+use Rattle.run_model.specs.State.{State, EventText}
 use Rattle.machine.specs.Held.{Becomes, IsHeld}
 use Rattle.machine.specs.View.{state_of}
 use Rattle.machine.specs.Words.{event_at}
@@ -46,12 +46,6 @@ event-added event s h =
     (none-above s.events s.texts h.events_fit.text_numbers) ∙ found-own e)
 
 -- ## What follows
-
-pub number-given : (m added : Parts) (event : EventIn) (number : ℕ) → number ≡ m.counts.events + 1
-    → Becomes (add_event (event_with event (state_of m)) (state_of m)) m added → number ≤ added.counts.events
-number-given m added event number is b =
-    let count : added.counts.events ≡ m.counts.events + 1 = ap (λ (s : State). s.events) b.state in
-    omega (arith, is, count)
 
 pub raised : (m added new : Parts) (event : EventIn) (number : ℕ) (name : List ℕ) → number ≡ m.counts.events + 1
     → name ≡ event.name → IsHeld m → Becomes (add_event (event_with event (state_of m)) (state_of m)) m added

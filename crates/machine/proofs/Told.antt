@@ -1,12 +1,15 @@
 -- The parts after a run's parent was told of its end.
-use Rattle.std.proofs.Common.{◌≡◌, ℕ, true, false, not, List, Option, Some, None, filter, refl, sym, subst}
+use Rattle.std.proofs.Common.{◌≡◌, ℕ, ◌≤◌, ◌==◌, not, List, Option, Some, filter, refl, sym, subst}
+use Rattle.kinds.specs.Moments.{last_moment}
 use Rattle.kinds.specs.declared.store.Parent.{Parent}
 use Rattle.kinds.specs.declared.store.RunStatus.{RunStatus}
 use Rattle.kinds.specs.declared.store.RunStatus.TheVariants.{Completed, Failed, Cancelled}
 use Rattle.run_model.specs.Ends.{cancelled_result, is_invocation_of, tell_parent, without_invocation_of}
 use Rattle.run_model.specs.Recording.{Discovery, at_the_end, data_result, error_result}
-use Rattle.run_model.specs.State.{State, Run, Invocation}
+use Rattle.run_model.specs.State.{Run, Invocation, live_run}
+use Rattle.run_model.specs.Fit.{IsRunFit}
 use Rattle.run_model.proofs.FitRuns.{fit-invocations}
+use Rattle.run_model.proofs.Members.{in-all, in-found}
 use Rattle.machine.specs.Held.{Becomes, IsHeld}
 use Rattle.machine.specs.View.{state_of}
 use Rattle.machine.specs.Words.{cancel_at, complete_at, content_at, end_at, fail_at, parent_at, raise_by}
@@ -75,3 +78,9 @@ held-failed m ended told new found error content parent text looked whose is a b
     (tell_parent at_the_end (parent_at found) (error_result error) (end_at found Failed (state_of m))) m told new
     (told-after at_the_end m ended told Failed found parent text (error_result error) whose is a b)
     (subst (λ o. Becomes (raise_by o (state_of told)) told new) looked c))
+
+pub live-dated : (m : Parts) (run : ℕ) (r : Run) → live_run run (state_of m) ≡ Some r → IsHeld m
+    → r.moment ≤ last_moment
+live-dated m run r found h =
+    (in-all (IsRunFit m.counts.runs m.counts.events m.counts.versions) r m.runs.live
+    (in-found (λ (q : Run). run == q.number) m.runs.live r found) h.fit.live_fit).moment
