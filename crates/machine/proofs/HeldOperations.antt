@@ -1,5 +1,5 @@
 -- The parts after operations: names, what waits, and what follows for those behind them.
-use Rattle.std.proofs.Common.{◌≡◌, ℕ, ◌+◌, ◌<◌, ◌≤◌, ◌==◌, Bool, true, false, not, cond, ◌&&◌, ◌||◌, List, [], ◌∷◌, ◌++◌, find, codes, Option, Some, None, option_map, nat_le, refl, sym, ap, ◌∙◌, arith, subst, eqb-true}
+use Rattle.std.proofs.Common.{◌≡◌, ℕ, ◌+◌, ◌<◌, ◌≤◌, ◌==◌, Bool, true, false, not, cond, ◌&&◌, ◌||◌, List, [], ◌∷◌, ◌++◌, find, codes, Option, Some, None, Result, Ok, Err, IfOk, option_map, nat_le, refl, sym, ap, ◌∙◌, arith, subst, eqb-true}
 use Rattle.std.specs.List.{AllByRecursion, list_any}
 use Rattle.std.proofs.lemmas.Bool.Decides.{nat_tests}
 use Rattle.kinds.specs.ErrorObject.{error_object}
@@ -12,7 +12,7 @@ use Rattle.kinds.specs.declared.store.Pending.{Pending}
 use Rattle.kinds.specs.declared.store.Pending.TheVariants as pending
 use Rattle.awaited.specs.declared.entries.Sleep.{Sleep}
 use Rattle.lists.proofs.Elements.{all-last, all-weaker}
-use Rattle.runs.specs.Changes.{changed, if_new, naming_in, naming_of, pend_in, plan_in, record_in, with_pending, with_plan}
+use Rattle.runs.specs.Changes.{changed, if_new, keep_in, naming_in, naming_of, pend_in, plan_in, record_in, with_pending, with_plan}
 use Rattle.runs.specs.Runs.{RunLists, run_number}
 use Rattle.runs.specs.declared.naming.Naming.{Naming}
 use Rattle.runs.specs.declared.naming.Naming.TheVariants.{New, Known, Full}
@@ -342,6 +342,39 @@ own-at m new run note word effect None n e same named h =
 own-at m new run note word effect (Some r) n e same named h =
     subst (λ s. Becomes (if_new n s (state_of m)) m new)
     (ap (λ k. word k (state_of m)) (own-run run r (state_of m) e) ∙ same r) h
+
+-- ## A result that a step reports
+
+naming-same : (f g : Run → Noting) (found : Option Run) → ((q : Run) → f q ≡ g q)
+    → naming_in f found ≡ naming_in g found
+naming-same f g None same = refl
+naming-same f g (Some r) same = ap naming_of (same r)
+
+if-ok-both : {A E : Type 0} (r : Result A E) (P R Q : A → Type 0) → ((a : A) → P a → R a → Q a) → IfOk r P
+    → IfOk r R → IfOk r Q
+if-ok-both (Ok a) P R Q f p q = f a p q
+if-ok-both (Err e) P R Q f p q = tt
+
+module _ {E : Type 0} (m new : Parts) (run : ℕ) (o : Op) (name text wanted : List ℕ) (r : Result Naming E)
+    (same : text ≡ wanted) (notes : (q : Run) → note_of o q ≡ keep_in name wanted q)
+    (makes : (q : Run) (s : State) → effect_of o q s ≡ record_result q.number name wanted s)
+    (named : IfOk r (λ n. n ≡ naming_in (keep_in name text) (live_run run (state_of m)))) where
+  pub kept-named : IfOk r (λ n. n ≡ naming_in (note_of o) (live_run run (state_of m)))
+  kept-named =
+      if-ok-both r _ _ _
+      (λ n is also. is
+      ∙ naming-same (keep_in name text) (note_of o) (live_run run (state_of m))
+      (λ q. ap (λ t. keep_in name t q) same ∙ sym (notes q))) named named
+
+  pub kept-now : IfOk r (λ n. Becomes (if_new n (record_result run name text (state_of m)) (state_of m)) m new)
+      → IfOk r (λ n. Becomes (if_new n (at_run (effect_of o) (live_run run (state_of m)) (state_of m)) (state_of m))
+      m new)
+  kept-now became =
+      if-ok-both r _ _ _
+      (λ n is became. own-at m new run (keep_in name text) (λ k s. record_result k name text s) (effect_of o)
+      (live_run run (state_of m)) n refl
+      (λ q. ap (λ t. record_result q.number name t (state_of m)) same ∙ sym (makes q (state_of m))) is became)
+      named became
 
 -- ## One operation
 
