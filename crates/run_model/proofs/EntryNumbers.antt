@@ -42,7 +42,7 @@ use Rattle.run_model.proofs.WaitingCounts.{one_if}
 
 -- ## How many have a number
 
-counts : {X : Type 0} → (X → ℕ) → ℕ → List X → ℕ
+pub counts : {X : Type 0} → (X → ℕ) → ℕ → List X → ℕ
 counts part n xs = length (filter (λ x. n == part x) xs)
 
 one-most : (b : Bool) → one_if b ≤ 1
@@ -50,11 +50,11 @@ one-most true = omega arith
 one-most false = omega arith
 
 module _ {X : Type 0} (part : X → ℕ) (n : ℕ) where
-  counts-none : counts part n [] ≡ 0
+  pub counts-none : counts part n [] ≡ 0
   unfolding counts
   counts-none = refl
 
-  counts-first : (x : X) (xs : List X) → counts part n (x ∷ xs) ≡ counts part n xs + one_if (n == part x)
+  pub counts-first : (x : X) (xs : List X) → counts part n (x ∷ xs) ≡ counts part n xs + one_if (n == part x)
   unfolding counts
   counts-first x xs = by_test (n == part x)
     where
@@ -71,7 +71,7 @@ module _ {X : Type 0} (part : X → ℕ) (n : ℕ) where
       let c = counts-last ys x in
       omega (arith, a, b, c)
 
-  counts-filter : (test : X → Bool) (xs : List X) → counts part n (filter test xs) ≤ counts part n xs
+  pub counts-filter : (test : X → Bool) (xs : List X) → counts part n (filter test xs) ≤ counts part n xs
   counts-filter test [] = omega (arith, counts-none)
   counts-filter test (x ∷ xs) = by_test (test x) (counts-filter test xs)
     where
@@ -97,7 +97,7 @@ module _ {X : Type 0} (part : X → ℕ) (n : ℕ) where
           let a = counts-first y (filter test ys) in let b = counts-first y ys in omega (arith, a, b, more)
       by_test false more = let b = counts-first y ys in omega (arith, b, more)
 
-  counts-both : (xs ys : List X) → counts part n (xs ++ ys) ≡ counts part n xs + counts part n ys
+  pub counts-both : (xs ys : List X) → counts part n (xs ++ ys) ≡ counts part n xs + counts part n ys
   counts-both [] ys = omega (arith, counts-none)
   counts-both (x ∷ xs) ys =
       let a = counts-first x (xs ++ ys) in
@@ -105,10 +105,10 @@ module _ {X : Type 0} (part : X → ℕ) (n : ℕ) where
       let c = counts-both xs ys in
       omega (arith, a, b, c)
 
-abbrev own : ℕ → ℕ
+abbrev pub own : ℕ → ℕ
 own n = n
 
-counts-map : {X : Type 0} (part : X → ℕ) (n : ℕ) (xs : List X) → counts own n (map part xs) ≡ counts part n xs
+pub counts-map : {X : Type 0} (part : X → ℕ) (n : ℕ) (xs : List X) → counts own n (map part xs) ≡ counts part n xs
 counts-map part n [] = omega (arith, counts-none own n, counts-none part n)
 counts-map part n (x ∷ xs) =
     let a = counts-first own n (part x) (map part xs) in
@@ -116,13 +116,13 @@ counts-map part n (x ∷ xs) =
     let c = counts-map part n xs in
     omega (arith, a, b, c)
 
-abbrev item_number : Item → ℕ
+abbrev pub item_number : Item → ℕ
 item_number i = i.number
 
-abbrev open_item : Issue → ℕ
+abbrev pub open_item : Issue → ℕ
 open_item i = i.item.number
 
-abbrev limit_number : Issue → ℕ
+abbrev pub limit_number : Issue → ℕ
 limit_number i = i.limit
 
 counts-open : (n : ℕ) (is : List Issue) → counts item_number n (map item_of is) ≡ counts open_item n is
@@ -169,10 +169,10 @@ counts-window n w (v ∷ ws) =
 -- ## Each number once
 
 -- one has the number at most, and none where it wasn't given
-abbrev Bound : ℕ → ℕ → ℕ → Type 0
+abbrev pub Bound : ℕ → ℕ → ℕ → Type 0
 Bound entries n t = (t ≤ 1) × (entries < n → t ≡ 0)
 
-bound-less : (entries n t u : ℕ) → u ≤ t → Bound entries n t → Bound entries n u
+pub bound-less : (entries n t u : ℕ) → u ≤ t → Bound entries n t → Bound entries n u
 bound-less entries n t u less h = (omega (arith, less, h.0), λ over. let none = h.1 over in omega (arith, less, none))
 
 bound-more : (entries n t : ℕ) → Bound entries n t → Bound (entries + 1) n t
@@ -193,13 +193,13 @@ bound-new entries n t u most h = by_test (n == entries + 1) refl most
     )
 
 -- those of the state, and the items that are aside
-abbrev total : ℕ → List Item → State → ℕ
+abbrev pub total : ℕ → List Item → State → ℕ
 total n is s =
     counts item_number n s.items + counts open_item n s.issues + counts sleep_number n s.sleeps
     + counts wait_number n s.waits + counts invocation_number n s.invocations + counts rule_number n s.rules
     + counts windows.number_of n s.windows + counts limit_number n s.issues + counts item_number n is
 
-abbrev OnceEach : List Item → State → Type 0
+abbrev pub OnceEach : List Item → State → Type 0
 OnceEach is s = (n : ℕ) → Bound s.entries n (total n is s)
 
 -- ## Windows
@@ -489,7 +489,7 @@ none-counted n (m ∷ ms) h =
       none-counted n ms (omega (arith, a, h)),
     )
 
-apart-counted : (ns : List ℕ) → ((n : ℕ) → counts own n ns ≤ 1) → ArePairwise (λ n later. n ≢ later) ns
+pub apart-counted : (ns : List ℕ) → ((n : ℕ) → counts own n ns ≤ 1) → ArePairwise (λ n later. n ≢ later) ns
 apart-counted [] h = tt
 apart-counted (m ∷ ms) h =
     let a : counts own m (m ∷ ms) ≡ counts own m ms + one_if (m == m) = counts-first own m m ms in
@@ -527,10 +527,13 @@ all-counted s n =
     let z = counts-none item_number n in
     omega (arith, x0, x1, x2, x3, x4, x5, x6, y0, y1, y2, y3, y4, y5, y6, y7, z)
 
+pub once-fold : (limits : Limits) (inputs : List Input) → OnceEach [] (fold limits inputs)
+once-fold limits inputs = once-after inputs (empty limits) (once-empty limits)
+
 pub apart-fold : (limits : Limits) (inputs : List Input)
     → ArePairwise (λ n later. n ≢ later) (entry_numbers (fold limits inputs))
 apart-fold limits inputs =
     let s : State = fold limits inputs in
     apart-counted (entry_numbers s)
-    (λ n. let a = all-counted s n in let b = (once-after inputs (empty limits) (once-empty limits) n).0 in
+    (λ n. let a = all-counted s n in let b = (once-fold limits inputs n).0 in
     omega (arith, a, b))

@@ -41,6 +41,7 @@ use Rattle.run_model.proofs.Members.{all-in, all-map, any-in, in-all, in-filter,
 use Rattle.run_model.proofs.Rising.{Rise, invocation_number, invoked, run_number}
 use Rattle.run_model.proofs.SettlingLists.{find-filter, found-passes, or-left, or-right}
 use Rattle.run_model.proofs.Unrecorded.{change, change-number, found-changed}
+use Rattle.run_model.proofs.WaitingCounts.{both-true}
 
 -- ## What holds
 
@@ -65,10 +66,6 @@ NoneOver child run hash = ⊥
 
 abbrev Invoked : State → Type 0
 Invoked s = AreInvoked NoneOver s.live s.invocations
-
-both-true : (a b : Bool) → (a && b) ≡ true → (a ≡ true) × (b ≡ true)
-both-true true b h = (refl, h)
-both-true false b h = absurd (cc)
 
 of-parts : (p : Parent) (i : Invocation) → is_invocation_of p i ≡ true → (p.run ≡ i.run) × (p.hash ≡ i.hash)
 of-parts p i h =

@@ -15,7 +15,7 @@ use Rattle.run_model.proofs.EntryNumbers.{apart-fold}
 use Rattle.run_model.proofs.Invoking.{invoked-fold}
 use Rattle.run_model.proofs.Limits.{limited-fold}
 use Rattle.run_model.proofs.OfLive.{of-fold}
-use Rattle.run_model.proofs.Registered.{versions-fold}
+use Rattle.run_model.proofs.OrderedLists.{numbered-fold}
 use Rattle.run_model.proofs.SeenOnce.{seen-fold}
 use Rattle.run_model.proofs.SettlingRests.{rests-step}
 use Rattle.run_model.proofs.StepsOnce.{once-recorded, room-fold}
@@ -33,14 +33,7 @@ reached limits inputs =
     let s : State = fold limits inputs in
     let h : Awaits s = awaits-fold limits inputs in
     record {
-      versions = versions-fold limits inputs;
-      texts = h.0.1.1.1;
-      live = h.0.1.0;
-      issues = h.0.1.1.0;
-      sleeps = h.0.0.sleeps_rise;
-      waits = h.0.0.waits_rise;
-      invocations = h.0.0.invocations_rise;
-      rules = h.0.0.rules_rise;
+      numbered = numbered-fold limits inputs;
       recorded = once-recorded limits inputs;
       pending = awaits-once s h;
       wakes = wakes-all s h;

@@ -14,6 +14,7 @@ use Rattle.run_model.proofs.Apart.{differs, not-same}
 use Rattle.run_model.proofs.FitEvents.{none-left}
 use Rattle.run_model.proofs.Members.{in-all}
 use Rattle.run_model.proofs.SettlingLists.{find-filter, found-passes}
+use Rattle.run_model.proofs.Tidied.{filter-all}
 use Rattle.run_model.proofs.Unrecorded.{change, found-changed}
 use Rattle.run_model.proofs.WaitingNames.{under}
 
@@ -45,11 +46,6 @@ filter-gone p q (x ∷ xs) w = by_tests (p x) (q x) refl (w x) (filter-gone p q 
     by_tests false true e k more = rw e more
     by_tests false false e k more = more
 
-pub filter-all : {X : Type 0} (p : X → Bool) (xs : List X) → AllByRecursion (λ x. p x ≡ true) xs
-    → filter p xs ≡ xs
-filter-all p [] h = refl
-filter-all p (x ∷ xs) h = rw h.0 (ap (λ ys. x ∷ ys) (filter-all p xs h.1))
-
 pub flip-eq : (a b : ℕ) → (a == b) ≡ (b == a)
 flip-eq a b = by_test (a == b) refl
   where
@@ -59,7 +55,7 @@ flip-eq a b = by_test (a == b) refl
 
 -- ## Names of steps
 
-both-true : (a b : Bool) → (a && b) ≡ true → (a ≡ true) × (b ≡ true)
+pub both-true : (a b : Bool) → (a && b) ≡ true → (a ≡ true) × (b ≡ true)
 both-true true b h = (refl, h)
 both-true false b h = absurd (cc)
 

@@ -377,20 +377,12 @@ pub record IsSound (s : State) : Type 0 where
 
 -- ## What is proved of them
 
--- Of each state that is reached, whatever inputs there were, this is a law: the third, fourth, sixth, eighth, tenth,
--- twelfth, thirteenth, sixteenth, nineteenth and twentieth condition, and parts of others: numbers that rise, runs that
--- end once, wanted runs, events of runs and windows, and remembered ids. The ninth is one where functions are in range
--- and fewer than 2^64 entries were numbered; that functions have ids of their own is one where no registration names
--- an id twice.
+-- Of each state that is reached, whatever inputs there were, this is a law: the first, third, fourth, sixth, eighth,
+-- tenth, twelfth, thirteenth, sixteenth, nineteenth and twentieth condition, and parts of others: runs that end once,
+-- wanted runs, events of runs and windows, and remembered ids. The ninth is one where functions are in range and fewer
+-- than 2^64 entries were numbered; that functions have ids of their own is one where no registration names an id twice.
 pub record IsReached (s : State) : Type 0 where
-  pub versions : RiseTo s.versions (map version_of s.functions)
-  pub texts : RiseTo s.events (map (λ (e : EventText). e.number) s.texts)
-  pub live : RiseTo s.runs (numbers_of s.live)
-  pub issues : RiseTo s.calls (map (λ (i : Issue). i.call) s.issues)
-  pub sleeps : RiseTo s.entries (map (λ (e : Sleep). e.number) s.sleeps)
-  pub waits : RiseTo s.entries (map (λ (e : Waiting). e.wait.number) s.waits)
-  pub invocations : RiseTo s.entries (map (λ (e : Invocation). e.number) s.invocations)
-  pub rules : RiseTo s.entries (map (λ (e : Rule). e.number) s.rules)
+  pub numbered : IsNumbered s
   pub recorded : AllByRecursion RecordsOnce s.live
   pub pending : AwaitsOnce s
   pub wakes : Wakes s

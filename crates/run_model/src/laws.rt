@@ -1,5 +1,4 @@
 // What holds of whole histories: runs have the numbers that were given, and what a run recorded stays.
-ghost use Rattle.functions.specs.Functions.{version_of};
 ghost use Rattle.functions.specs.declared.entry.FunctionEntry.{FunctionEntry};
 ghost use Rattle.kinds.specs.RunSteps.{result_of};
 ghost use Rattle.kinds.specs.declared.input.Input.{Input};
@@ -7,10 +6,10 @@ ghost use Rattle.kinds.specs.declared.limits.Limits.{Limits};
 ghost use Rattle.run_model.specs.Fit.{RunsStandOnce};
 ghost use Rattle.run_model.specs.Laws.{AreCounted, Follows, HasFunctions, IsFormed, IsNoRegistration};
 ghost use Rattle.run_model.specs.Machine.{fold, step};
-ghost use Rattle.run_model.specs.Sound.{AreApart, AreOfLive, IsReached, RiseTo};
+ghost use Rattle.run_model.specs.Sound.{AreApart, AreOfLive, IsNumbered, IsReached};
 ghost use Rattle.run_model.specs.State.{State, Run, live_run};
 ghost use Rattle.std.specs.List.{AllByRecursion};
-ghost use Rattle.std.specs.Prelude.{ℕ, List, map, ◌≡◌, ◌++◌, Some};
+ghost use Rattle.std.specs.Prelude.{ℕ, List, ◌≡◌, ◌++◌, Some};
 
 /// Each run that has not ended has one of the numbers that were given to runs, so no new run takes it.
 pub fn numbers_are_counted()
@@ -61,10 +60,9 @@ pub fn what_waits_is_of_live_runs()
     ensures { (limits : Limits) (inputs : List Input) → AreOfLive (fold limits inputs) }
 {}
 
-/// Versions rise in the order of the current functions, and are at most their count.
-pub fn versions_rise()
-    ensures { (limits : Limits) (inputs : List Input) →
-        RiseTo (fold limits inputs).versions (map version_of (fold limits inputs).functions) }
+/// The numbers of each list rise, versions as well, and are at most their count; windows stand by kind and number.
+pub fn numbers_rise()
+    ensures { (limits : Limits) (inputs : List Input) → IsNumbered (fold limits inputs) }
 {}
 
 /// Whatever is registered, no two current functions have one id, where no registration names one twice.

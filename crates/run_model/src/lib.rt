@@ -25,9 +25,9 @@ pub use items::{
     items_keep_own_numbers, operations_leave_items_aside,
 };
 pub use laws::{
-    current_functions_have_own_ids, numbers_are_counted, numbers_stay_counted,
+    current_functions_have_own_ids, numbers_are_counted, numbers_rise, numbers_stay_counted,
     only_registrations_change_functions, recorded_only_grows, recorded_steps_stay,
-    runs_keep_standing_once, runs_stand_once, versions_rise, what_holds_of_reached_states,
+    runs_keep_standing_once, runs_stand_once, what_holds_of_reached_states,
     what_waits_is_of_live_runs,
 };
 pub use remembering::{ids_are_remembered_once, runs_have_events, what_happened_is_dated};
