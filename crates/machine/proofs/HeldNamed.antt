@@ -475,18 +475,23 @@ weighed-by m events h =
     (λ (e : EventText). counts m.texts.counted e ≡ model.is_used (state_of m) e) m.texts.texts
     (λ e right. (right (ap (λ ns. has_number ns e.number) events)).counted) h.events.each)))
 
-pub kept-exact : (m : Parts) (events results ids : ℕ) → events ≡ counted_bytes m.texts
-    → results ≡ bytes_of_results m.runs.live → ids ≡ weight_of m.seen → IsAtRest m
-    → events + results + ids ≡ kept (state_of m)
-kept-exact m events results ids a b c h =
-    ap (λ n. n + results + ids) a ∙ ap (λ n. counted_bytes m.texts + n + ids) b
-    ∙ ap (λ n. counted_bytes m.texts + bytes_of_results m.runs.live + n) c ∙ sym (weighed-by m h.loose.1.0 h.held)
+module _ (m : Parts) (events results ids : ℕ) (a : events ≡ counted_bytes m.texts)
+    (b : results ≡ bytes_of_results m.runs.live) (c : ids ≡ weight_of m.seen) where
+  kept-sum : m.loose.events ≡ [] → IsHeld m → events + results + ids ≡ kept (state_of m)
+  kept-sum none h =
+      ap (λ n. n + results + ids) a ∙ ap (λ n. counted_bytes m.texts + n + ids) b
+      ∙ ap (λ n. counted_bytes m.texts + bytes_of_results m.runs.live + n) c ∙ sym (weighed-by m none h)
 
-pub kept-fits : (m : Parts) (events results ids : ℕ) → events ≡ counted_bytes m.texts
-    → results ≡ bytes_of_results m.runs.live → ids ≡ weight_of m.seen → IsAtRest m
-    → events + results + ids < 2 ^ 64
-kept-fits m events results ids a b c h =
-    subst (λ k. k < 2 ^ 64) (sym (kept-exact m events results ids a b c h)) h.weighed
+  pub weighed-below : (named : ℕ) → named ≡ events + results → named + ids < 2 ^ 64 → m.loose.events ≡ []
+      → IsHeld m → kept (state_of m) < 2 ^ 64
+  weighed-below named is below none h =
+      subst (λ k. k < 2 ^ 64) (ap (λ n. n + ids) is ∙ kept-sum none h) below
+
+  pub kept-exact : IsAtRest m → events + results + ids ≡ kept (state_of m)
+  kept-exact h = kept-sum h.loose.0.1 h.held
+
+  pub kept-fits : IsAtRest m → events + results + ids < 2 ^ 64
+  kept-fits h = subst (λ k. k < 2 ^ 64) (sym (kept-exact h)) h.weighed
 
 -- ## At rest
 

@@ -1,11 +1,11 @@
 -- The parts after a run is made: its rules, and the run with its first item.
-use Rattle.std.proofs.Common.{◌≡◌, ℕ, ℤ, pos, negsuc, ◌+◌, ◌<◌, ◌≤◌, ◌==◌, Bool, true, false, cond, ◌&&◌, ◌||◌, List, [], ◌∷◌, ◌++◌, map, find, Option, Some, None, unsigned_abs, option_map, refl, sym, ap, ◌∙◌, arith, subst, eqb-true}
+use Rattle.std.proofs.Common.{◌≡◌, ℕ, ℤ, pos, negsuc, ◌+◌, ◌<◌, ◌≤◌, ◌==◌, Bool, true, false, cond, ◌&&◌, ◌||◌, List, [], ◌∷◌, ◌++◌, map, find, Option, Some, None, unsigned_abs, option_map, to_z, of_z, w64, refl, sym, ap, ◌∙◌, arith, subst, eqb-true}
 use Rattle.std.specs.List.{AllByRecursion, list_any}
 use Rattle.std.specs.List.Sorted.{IsStrictlySortedBy}
 use Rattle.std.specs.Ordering.{nat_cmp}
 use Rattle.std.specs.declared.cmp.Ordering.TheVariants.{Less}
 use Rattle.std.proofs.lemmas.Bool.Decides.{nat_tests}
-use Rattle.std.proofs.lemmas.Int.{ints}
+use Rattle.std.proofs.lemmas.Int.{fits_signed_from_abs, ints, to_z-of_z}
 use Rattle.admission.specs.Admission.{Admission}
 use Rattle.event_keys.specs.Expressions.{most_shift}
 use Rattle.event_texts.specs.Texts.{text_or_none}
@@ -28,6 +28,7 @@ use Rattle.run_model.specs.Making.{add_rules, first_of, make_run, new_item, queu
 use Rattle.run_model.specs.State.{State, Run, Issue, EventText, EndedRun, function_at, text_of}
 use Rattle.run_model.proofs.FitCounts.{fit-conditions, fit-entries, fit-live, fit-runs}
 use Rattle.run_model.proofs.FitRuns.{bucket-found, first-given, fit-new}
+use Rattle.run_model.proofs.FitShifts.{shift-within}
 use Rattle.run_model.proofs.FitUses.{none-next}
 use Rattle.run_model.proofs.FitWindows.{fit-started}
 use Rattle.run_model.proofs.Members.{all-map, in-all, in-found, in-last}
@@ -118,7 +119,7 @@ any-last : {X : Type 0} (p : X → Bool) (xs : List X) (x : X) → p x ≡ false
 any-last p [] x h = ap (λ b. b || false) h
 any-last p (y ∷ ys) x h = ap (λ b. p y || b) (any-last p ys x h)
 
-not-same : (touched : List ℕ) (k n : ℕ) → has_number touched k ≡ false → has_number touched n ≡ true
+pub not-same : (touched : List ℕ) (k n : ℕ) → has_number touched k ≡ false → has_number touched n ≡ true
     → (k == n) ≡ false
 not-same touched k n left there = by_test (k == n) refl
   where
@@ -377,9 +378,6 @@ plan-drafts s version first plan is =
     subst (λ (p : Plan). AreDraftsFit s.texts first p.rules) (sym found.2)
     (drafts-fit s.moment first s found.0.function.cancels)
 
-pub plan-first : (s : State) (events : List ℕ) → AreGiven s.events events → first_of events ≤ s.events
-plan-first s events given = first-given s.events events given
-
 plan-new : (s : State) (version number : ℕ) (events : List ℕ) (parent : Option Parent) (plan : Plan)
     → IsPlan plan version (first_of events) s → number ≡ s.runs + 1 → AreGiven s.events events → IsFit s
     → IsNewFit s (origin_by plan number s.moment events parent)
@@ -417,27 +415,63 @@ module _ (m n : Parts) (run first : ℕ) (ds : List Draft)
       (subst (λ k. IsRunFit (m.counts.runs + 1) k n.counts.versions r) (sym drafts-events)
       (subst (λ k. IsRunFit (m.counts.runs + 1) m.counts.events k r) (sym drafts-versions) new))
 
-pub made-next : (m n : Parts) (number : ℕ) (first : ℕ) (ds : List Draft)
-    → Becomes (add_drafts number first ds (state_of m)) m n → number ≡ m.counts.runs + 1
-    → number ≡ n.counts.runs + 1
-made-next m n number first ds became next =
-    next ∙ ap (λ k. k + 1) (sym (drafts-runs m n number first ds became))
+-- what was looked up of a run that is made
+pub record IsDecided (m : Parts) (version number first : ℕ) (events : List ℕ) (plan : Plan) : Type 0 where
+  pub plan_is : IsPlan plan version first (state_of m)
+  pub next : number ≡ m.counts.runs + 1
+  pub first_is : first ≡ first_of events
 
-pub made-fit : (m n : Parts) (version number : ℕ) (events : List ℕ) (parent : Option Parent) (plan : Plan)
-    → IsPlan plan version (first_of events) (state_of m) → number ≡ m.counts.runs + 1
-    → AreGiven m.counts.events events
-    → Becomes (add_drafts number (first_of events) plan.rules (state_of m)) m n → IsHeld m
-    → IsNewFit (state_of n) (origin_by plan number m.moment events parent)
-made-fit m n version number events parent plan is next given became h =
-    new-after m n number (first_of events) plan.rules became (origin_by plan number m.moment events parent)
-    (plan-new (state_of m) version number events parent plan is next given h.fit)
+-- a shift fits its type
+shift-fits : (z : ℤ) → unsigned_abs z ≤ most_shift → to_z w64 (of_z w64 z) ≡ z
+shift-fits z near = to_z-of_z w64 z (fits_signed_from_abs w64 z (omega (arith, near)))
 
-pub held-make_run : (m n new : Parts) (version number : ℕ) (events : List ℕ) (parent : Option Parent) (plan : Plan)
-    → IsPlan plan version (first_of events) (state_of m) → number ≡ m.counts.runs + 1
-    → Becomes (add_drafts number (first_of events) plan.rules (state_of m)) m n
-    → Becomes (begin_run (origin_by plan number m.moment events parent) (state_of n)) n new
-    → Becomes (make_at (function_at version (state_of m)) events parent (state_of m)) m new
-held-make_run m n new version number events parent plan is next ruled begun =
-    subst (λ s. Becomes s m new) (made-by (state_of m) version number events parent plan is next)
-    (becomes-then (begin_run (origin_by plan number m.moment events parent))
-    (add_drafts number (first_of events) plan.rules (state_of m)) m n new ruled begun)
+plan-shift : (s : State) (version first : ℕ) (plan : Plan) → IsPlan plan version first s
+    → unsigned_abs plan.shift ≤ most_shift
+plan-shift s version first plan is =
+    let found = some-mapped (planned first s) (function_at version s) plan is in
+    subst (λ (p : Plan). unsigned_abs p.shift ≤ most_shift) (sym found.2)
+    (shift-within found.0.function.priority (text_or_none (text_of first s)))
+
+-- as it goes into the run
+abbrev held_plan : Plan → Plan
+held_plan p = record p { shift = to_z w64 (of_z w64 p.shift) }
+
+module _ (m : Parts) (version number first : ℕ) (events : List ℕ) (plan : Plan)
+    (d : IsDecided m version number first events plan) where
+  same-plan : held_plan plan ≡ plan
+  same-plan = ap (λ z. record plan { shift = z })
+      (shift-fits plan.shift (plan-shift (state_of m) version first plan d.plan_is))
+
+  pub decided-first : AreGiven m.counts.events events → first ≤ m.counts.events
+  decided-first given = subst (λ n. n ≤ m.counts.events) (sym d.first_is) (first-given m.counts.events events given)
+
+  pub decided-drafts : AreDraftsFit m.texts.texts first plan.rules
+  decided-drafts = plan-drafts (state_of m) version first plan d.plan_is
+
+  plan-of-first : IsPlan plan version (first_of events) (state_of m)
+  plan-of-first = subst (λ n. IsPlan plan version n (state_of m)) d.first_is d.plan_is
+
+  pub decided-next : (n : Parts) → Becomes (add_drafts number first plan.rules (state_of m)) m n
+      → number ≡ n.counts.runs + 1
+  decided-next n became = d.next ∙ ap (λ k. k + 1) (sym (drafts-runs m n number first plan.rules became))
+
+  pub decided-fit : (n : Parts) (parent : Option Parent)
+      → Becomes (add_drafts number first plan.rules (state_of m)) m n → AreGiven m.counts.events events → IsHeld m
+      → IsNewFit (state_of n) (origin_by (held_plan plan) number m.moment events parent)
+  decided-fit n parent became given h =
+      subst (λ p. IsNewFit (state_of n) (origin_by p number m.moment events parent)) (sym same-plan)
+      (new-after m n number first plan.rules became (origin_by plan number m.moment events parent)
+      (plan-new (state_of m) version number events parent plan plan-of-first d.next given h.fit))
+
+  pub held-make_run : (n new : Parts) (parent : Option Parent)
+      → Becomes (add_drafts number first plan.rules (state_of m)) m n
+      → Becomes (begin_run (origin_by (held_plan plan) number m.moment events parent) (state_of n)) n new
+      → Becomes (make_at (function_at version (state_of m)) events parent (state_of m)) m new
+  held-make_run n new parent ruled begun =
+      let r : Run = origin_by (held_plan plan) number m.moment events parent in
+      subst (λ s. Becomes s m new)
+      (ap (λ k. begin_run r (add_drafts number k plan.rules (state_of m))) d.first_is
+      ∙ ap (λ p. begin_run (origin_by p number m.moment events parent)
+      (add_drafts number (first_of events) plan.rules (state_of m))) same-plan
+      ∙ made-by (state_of m) version number events parent plan plan-of-first d.next)
+      (becomes-then (begin_run r) (add_drafts number first plan.rules (state_of m)) m n new ruled begun)

@@ -1,5 +1,5 @@
 -- The parts after runs that were touched are looked at: those whose calls have ended go.
-use Rattle.std.proofs.Common.{◌≡◌, ℕ, ◌-◌, ◌<◌, ◌==◌, Bool, true, false, not, cond, ◌||◌, List, [], ◌∷◌, ◌++◌, filter, find, take, drop, length, slice_get, Option, Some, None, IfSome, refl, sym, ap, ap₂, ◌∙◌, arith, subst, eqb-true}
+use Rattle.std.proofs.Common.{◌≡◌, ℕ, ◌-◌, ◌<◌, ◌≤◌, ◌==◌, Bool, true, false, not, cond, ◌||◌, List, [], ◌∷◌, ◌++◌, filter, find, take, drop, length, slice_get, Option, Some, None, IfSome, refl, sym, ap, ap₂, ◌∙◌, arith, subst, eqb-true}
 use Rattle.std.specs.BTreeMap.{is_at}
 use Rattle.std.specs.List.{AllByRecursion, list_any}
 use Rattle.std.specs.Ordering.{nat_cmp}
@@ -71,7 +71,7 @@ pub record IsLoosened (loose : Loose) (r : Run) : Type 0 where
 abbrev AreLoosened : ℕ → Loose → List Run → Type 0
 AreLoosened run loose closing = AllByRecursion (λ (r : Run). (run == r.number) ≡ true → IsLoosened loose r) closing
 
-by-not : (b : Bool) → not b ≡ false → b ≡ true
+pub by-not : (b : Bool) → not b ≡ false → b ≡ true
 by-not true h = refl
 by-not false h = cc
 

@@ -1,12 +1,11 @@
 // What stays at the end of a step. Looked at is only what the step touched.
-ghost use Rattle.std.specs.Prelude.{◌≡◌, ◌<◌, ◌^◌, [], false, IfOk, OnOk};
+ghost use Rattle.std.specs.Prelude.{◌≡◌, ◌+◌, ◌<◌, ◌^◌, [], false, IfOk, OnOk};
 ghost use Rattle.machine.specs.Held.{Becomes, IsAtRest, IsHeld, is_event_used, is_version_in_use};
 ghost use Rattle.machine.specs.Tidy.{IsEventSettled, IsLooked, IsTidied, forget_run, look_at_event, look_at_run, look_at_version, touched_events, touched_runs, touched_versions};
 ghost use Rattle.machine.specs.View.{state_of};
 ghost use Rattle.run_model.specs.State.{kept, tidied, without_closed, without_unnamed};
 
 use crate::Parts;
-use crate::making::later;
 use lists::Memory;
 
 impl Parts {
@@ -178,8 +177,19 @@ impl Parts {
         requires settled { self.now.loose.events ≡ [] }
         ensures { OnOk result (kept (state_of self.now) < 2 ^ 64) }
     {
-        let named = later(self.texts.bytes(), self.runs.results())?;
-        later(named, self.seen.weight())?;
+        let named = sum(self.texts.bytes(), self.runs.results())?;
+        sum(named, self.seen.weight())?;
         Ok(())
+    }
+}
+
+// One past 2^64 - 1 counts as want of memory.
+fn sum(a: u64, b: u64) -> Result<u64, Memory>
+    ensures value { IfOk result (λ n. n ≡ a + b) }
+    ensures below { OnOk result (a + b < 2 ^ 64) }
+{
+    match a.checked_add(b) {
+        Some(sum) => Ok(sum),
+        None => Err(Memory),
     }
 }
