@@ -66,7 +66,7 @@ not-before a b e =
     grind (arith, less)
 
 module _ {X : Type 0} (part : X → ℕ) where
-  abbrev InOrder : List X → Type 0
+  abbrev pub InOrder : List X → Type 0
   InOrder xs = ArePairwise (λ x later. part x ≤ part later) xs
 
   order-inserted : (x : X) (xs : List X) → InOrder xs → InOrder (insert_by part x xs)
@@ -110,7 +110,7 @@ order-queued x (i ∷ items) h = by_test (nat_lt x.number i.number) refl (order-
 pair-total : IsTotalOrder pair_cmp
 pair-total = then_total (on_total (λ p. p.0) nat_cmp_total) (on_total (λ p. p.1) nat_cmp_total)
 
-abbrev key : Window → ℕ × ℕ
+abbrev pub key : Window → ℕ × ℕ
 key w = key_of windows.kind_of windows.number_of w
 
 is-less : (o : Ordering) → is_lt o ≡ true → o ≡ Less
@@ -119,7 +119,7 @@ is-less Equal e = absurd (cc)
 is-less Greater e = absurd (cc)
 
 -- none stands before one in front of it
-abbrev NotAfter : Window → Window → Type 0
+abbrev pub NotAfter : Window → Window → Type 0
 NotAfter w later = is_lt (pair_cmp (key later) (key w)) ≡ false
 
 not-after : (w v : Window) → is_lt (pair_cmp (key w) (key v)) ≡ true → NotAfter w v
@@ -247,7 +247,7 @@ counts-numbered n name versions (f ∷ fs) =
       low = λ (k : versions + length (f ∷ fs) < n). let none = h.low (omega (arith, k)) in omega (arith, first, none);
     }
 
-abbrev VersionsOnce : ℕ → List FunctionEntry → List FunctionEntry → Type 0
+abbrev pub VersionsOnce : ℕ → List FunctionEntry → List FunctionEntry → Type 0
 VersionsOnce versions fs es = (n : ℕ) → Bound versions n (counts version_of n fs + counts version_of n es)
 
 versions-registered : (app : App) (versions : ℕ) (fs es : List FunctionEntry) → VersionsOnce versions fs es
@@ -294,7 +294,7 @@ versions-registered app versions fs es h n =
 
 -- ## The changes
 
-abbrev Lists : State → Type 0
+abbrev pub Lists : State → Type 0
 Lists s = InOrder run_number s.closing × (InOrder item_number s.items × (InOrder version_of s.retired
     × (ArePairwise NotAfter s.windows × VersionsOnce s.versions s.functions s.retired)))
 
@@ -449,7 +449,7 @@ pairs-both (n ∷ ns) h k = (
         by_test false e = grind (arith, low, e)
 
 module _ {X : Type 0} (part : X → ℕ) where
-  counts-here : (x : X) (xs : List X) → IsIn x xs → 1 ≤ counts part (part x) xs
+  pub counts-here : (x : X) (xs : List X) → IsIn x xs → 1 ≤ counts part (part x) xs
   counts-here x [] there = absurd there
   counts-here x (y ∷ ys) (inl same) =
       let a : counts part (part x) (y ∷ ys) ≡ counts part (part x) ys + one_if (part x == part y) =
@@ -528,10 +528,13 @@ placed-all ws h k = both ws h (pairs-unmap (λ n later. n ≢ later) windows.num
       both vs a.1 b.1,
     )
 
+pub lists-fold : (limits : Limits) (inputs : List Input) → Lists (fold limits inputs)
+lists-fold limits inputs = lists-after inputs (empty limits) (lists-empty limits)
+
 pub numbered-fold : (limits : Limits) (inputs : List Input) → IsNumbered (fold limits inputs)
 numbered-fold limits inputs =
     let s : State = fold limits inputs in
-    let lists : Lists s = lists-after inputs (empty limits) (lists-empty limits) in
+    let lists : Lists s = lists-fold limits inputs in
     let rise : Awaits s = awaits-fold limits inputs in
     let entries : OnceEach [] s = once-fold limits inputs in
     let once : RunsStandOnce s = runs-once limits inputs in

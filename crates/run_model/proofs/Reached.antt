@@ -19,6 +19,7 @@ use Rattle.run_model.proofs.OrderedLists.{numbered-fold}
 use Rattle.run_model.proofs.SeenOnce.{seen-fold}
 use Rattle.run_model.proofs.SettlingRests.{rests-step}
 use Rattle.run_model.proofs.StepsOnce.{once-recorded, room-fold}
+use Rattle.run_model.proofs.Whole.{kept-fold, stand-fold}
 
 settled-after : (inputs : List Input) (s : State) → next_issued s ≡ None → next_issued (state_after s inputs) ≡ None
 settled-after [] s h = h
@@ -34,6 +35,8 @@ reached limits inputs =
     let h : Awaits s = awaits-fold limits inputs in
     record {
       numbered = numbered-fold limits inputs;
+      kept = kept-fold limits inputs;
+      once = stand-fold limits inputs;
       recorded = once-recorded limits inputs;
       pending = awaits-once s h;
       wakes = wakes-all s h;

@@ -191,7 +191,7 @@ in-map part x [] there = absurd there
 in-map part x (y ∷ ys) (inl same) = inl (ap part same)
 in-map part x (y ∷ ys) (inr there) = inr (in-map part x ys there)
 
-map-take : {X : Type 0} (part : X → ℕ) (n : ℕ) (xs : List X) → map part (take n xs) ≡ take n (map part xs)
+pub map-take : {X : Type 0} (part : X → ℕ) (n : ℕ) (xs : List X) → map part (take n xs) ≡ take n (map part xs)
 map-take part zero [] = refl
 map-take part zero (x ∷ xs) = refl
 map-take part (suc n) [] = refl
@@ -207,7 +207,7 @@ map-both : {X : Type 0} (part : X → ℕ) (xs ys : List X) → map part (xs ++ 
 map-both part [] ys = refl
 map-both part (x ∷ xs) ys = ap (λ ns. part x ∷ ns) (map-both part xs ys)
 
-map-last_or : {X : Type 0} (part : X → ℕ) (test : ℕ → Bool) (most : ℕ) (xs : List X)
+pub map-last_or : {X : Type 0} (part : X → ℕ) (test : ℕ → Bool) (most : ℕ) (xs : List X)
     → map part (last_or (λ x. test (part x)) most xs) ≡ last_or test most (map part xs)
 map-last_or part test most xs =
     let n : ℕ = length xs - most in

@@ -34,7 +34,7 @@ take-front xs ys n e = rw e (take-append_seam xs ys)
 pub drop-front : {X : Type 0} (xs ys : List X) (n : ℕ) → n ≡ length xs → drop n (xs ++ ys) ≡ ys
 drop-front xs ys n e = rw e (drop-append_seam xs ys)
 
-length-filtered : {X : Type 0} (p : X → Bool) (xs : List X) → length (filter p xs) ≤ length xs
+pub length-filtered : {X : Type 0} (p : X → Bool) (xs : List X) → length (filter p xs) ≤ length xs
 length-filtered p [] = omega arith
 length-filtered p (x ∷ xs) = by_test (p x) (length-filtered p xs)
   where
@@ -127,3 +127,6 @@ pub waits-fold : (limits : Limits) (inputs : List Input) (at : ℕ) → OnlyTime
 waits-fold limits inputs at before =
     let h : IsAtRest (fold limits inputs) = rests-state_after inputs (empty limits) (rests-empty limits) in
     waits-step (fold limits inputs) at h.rests h.tidy before
+
+pub tidied-fold : (limits : Limits) (inputs : List Input) → tidied (fold limits inputs) ≡ fold limits inputs
+tidied-fold limits inputs = (rests-state_after inputs (empty limits) (rests-empty limits)).tidy

@@ -378,11 +378,14 @@ pub record IsSound (s : State) : Type 0 where
 -- ## What is proved of them
 
 -- Of each state that is reached, whatever inputs there were, this is a law: the first, third, fourth, sixth, eighth,
--- tenth, twelfth, thirteenth, sixteenth, nineteenth and twentieth condition, and parts of others: runs that end once,
--- wanted runs, events of runs and windows, and remembered ids. The ninth is one where functions are in range and fewer
--- than 2^64 entries were numbered; that functions have ids of their own is one where no registration names an id twice.
+-- tenth, twelfth, thirteenth, sixteenth, nineteenth and twentieth condition, and parts of others: what is there is
+-- named, and once; wanted runs, events of runs and windows, and remembered ids. The ninth is one where functions are in
+-- range and fewer than 2^64 entries were numbered; that functions have ids of their own is one where no registration
+-- names an id twice.
 pub record IsReached (s : State) : Type 0 where
   pub numbered : IsNumbered s
+  pub kept : KeepsNamed s
+  pub once : StandsOnce s
   pub recorded : AllByRecursion RecordsOnce s.live
   pub pending : AwaitsOnce s
   pub wakes : Wakes s

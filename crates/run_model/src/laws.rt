@@ -6,7 +6,7 @@ ghost use Rattle.kinds.specs.declared.limits.Limits.{Limits};
 ghost use Rattle.run_model.specs.Fit.{RunsStandOnce};
 ghost use Rattle.run_model.specs.Laws.{AreCounted, Follows, HasFunctions, IsFormed, IsNoRegistration};
 ghost use Rattle.run_model.specs.Machine.{fold, step};
-ghost use Rattle.run_model.specs.Sound.{AreApart, AreOfLive, IsNumbered, IsReached};
+ghost use Rattle.run_model.specs.Sound.{AreApart, AreOfLive, IsNumbered, IsReached, KeepsNamed, StandsOnce};
 ghost use Rattle.run_model.specs.State.{State, Run, live_run};
 ghost use Rattle.std.specs.List.{AllByRecursion};
 ghost use Rattle.std.specs.Prelude.{ℕ, List, ◌≡◌, ◌++◌, Some};
@@ -74,4 +74,14 @@ pub fn current_functions_have_own_ids()
 /// What the other laws say of each state that is reached, in one: whatever inputs there were.
 pub fn what_holds_of_reached_states()
     ensures { (limits : Limits) (inputs : List Input) → IsReached (fold limits inputs) }
+{}
+
+/// What is there is named: by a run, a window or an open call, or it is among the last thousand runs that ended.
+pub fn what_is_there_is_named()
+    ensures { (limits : Limits) (inputs : List Input) → KeepsNamed (fold limits inputs) }
+{}
+
+/// Each stands in one place: a version is current or retired, and a run has ended once or not at all.
+pub fn each_stands_once()
+    ensures { (limits : Limits) (inputs : List Input) → StandsOnce (fold limits inputs) }
 {}

@@ -25,10 +25,10 @@ pub use items::{
     items_keep_own_numbers, operations_leave_items_aside,
 };
 pub use laws::{
-    current_functions_have_own_ids, numbers_are_counted, numbers_rise, numbers_stay_counted,
-    only_registrations_change_functions, recorded_only_grows, recorded_steps_stay,
-    runs_keep_standing_once, runs_stand_once, what_holds_of_reached_states,
-    what_waits_is_of_live_runs,
+    current_functions_have_own_ids, each_stands_once, numbers_are_counted, numbers_rise,
+    numbers_stay_counted, only_registrations_change_functions, recorded_only_grows,
+    recorded_steps_stay, runs_keep_standing_once, runs_stand_once, what_holds_of_reached_states,
+    what_is_there_is_named, what_waits_is_of_live_runs,
 };
 pub use remembering::{ids_are_remembered_once, runs_have_events, what_happened_is_dated};
 pub use settling::{calls_send_all_that_is_recorded, nothing_admissible_is_left};
