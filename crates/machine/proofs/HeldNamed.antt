@@ -272,8 +272,7 @@ looked-event m d k o new first b settled same rest h =
     let s = state_of m in
     let events : d.loose.events ≡ m.loose.events = ap (λ (l : Loose). l.events) same in
     let taken : IsTaken k m.loose.events new = taken-first k o m.loose.events d.loose.events new first events rest in
-    let own : IsTaken k d.loose.events new = subst (λ ns. IsTaken k ns new) (sym events) taken in
-    (
+    let own : IsTaken k d.loose.events new = subst (λ ns. IsTaken k ns new) (sym events) taken in (
       record {
         same = ap without_unnamed b.state
             ∙ unnamed-text k s (is_event_named s.live s.closing s.windows k) refl;
@@ -408,8 +407,7 @@ looked-version m d k o new first b same rest h =
     let in_use : Bool = is_version_in_use s.live s.closing s.windows k in
     let versions : d.loose.versions ≡ m.loose.versions = ap (λ (l : Loose). l.versions) same in
     let taken : IsTaken k m.loose.versions new =
-    taken-first k o m.loose.versions d.loose.versions new first versions rest in
-    (
+    taken-first k o m.loose.versions d.loose.versions new first versions rest in (
       record {
         same = ap without_unnamed b.state ∙ unnamed-version k s in_use refl;
         held = record {

@@ -471,8 +471,7 @@ pub operation-full : (m l new : Parts) (i : Item) (no_retry : Bool) (o : Op) (n 
 operation-full m l new i no_retry o New is late named h k = cc
 operation-full m l new i no_retry o Known is late named h k = cc
 operation-full m l new i no_retry o Full is late named h k =
-    let g = gives-named i no_retry o (state_of m) Full late named in
-    (
+    let g = gives-named i no_retry o (state_of m) Full late named in (
       g.taken,
       subst (λ s. Becomes s m new) (sym g.state)
           (becomes-then (λ s. fail_at (live_run i.run s) too_many_steps s) (state_of m) m l new h k),
@@ -630,8 +629,7 @@ module _ (i : Item) (no_retry : Bool) (all rest more : List Op) (o : Op) (old l 
       × Becomes (take_operations i no_retry all (begun (state_of old))).state old new
   taking-stops first h is became halts =
       let stopped = stopped-by begun_here.stopped begun_here.again (sym halts ∙ is) in
-      let whole = sym (none-further i no_retry more (with_again again begun_here) stopped) ∙ one-further first h in
-      (
+      let whole = sym (none-further i no_retry more (with_again again begun_here) stopped) ∙ one-further first h in (
         ap (λ b. taken_by b (again || begun_here.again)) (sym stopped) ∙ ap taken_of whole,
         record {
           state = became.state ∙ ap (λ (t : Taking). t.state) whole;
@@ -646,8 +644,7 @@ pub taking-done : (i : Item) (no_retry : Bool) (all rest : List Op) (old l : Par
     × Becomes (take_operations i no_retry all (begun (state_of old))).state old l
 unfolding take_operations
 taking-done i no_retry all rest old l again none h =
-    let whole = ap (λ os. take_operations i no_retry os (paused (state_of l) again)) (sym none) ∙ h.same in
-    (
+    let whole = ap (λ os. take_operations i no_retry os (paused (state_of l) again)) (sym none) ∙ h.same in (
       ap taken_of whole,
       record { state = ap (λ (t : Taking). t.state) whole; held = h.held; clock = h.clock },
     )

@@ -319,8 +319,7 @@ looked-run m d k o new first b same rest h =
     let s = state_of m in
     let taken : IsTaken k m.loose.runs new = taken-first k o m.loose.runs d.loose.runs new first same rest in
     let settled : IsRunSettled k (state_of d) =
-    subst (IsRunSettled k) (sym b.state) (settled-run k s (has_open_call s.issues k) refl) in
-    (
+    subst (IsRunSettled k) (sym b.state) (settled-run k s (has_open_call s.issues k) refl) in (
       record {
         same = ap without_closed b.state ∙ closed-look k s (has_open_call s.issues k) refl;
         held = record {
@@ -342,8 +341,7 @@ looked-run m d k o new first b same rest h =
 pub last-looked : (part : Loose → List ℕ) (word : State → State) (m l new : Parts) (more : Bool) → more ≡ false
     → IsLooked part word more l new → IsTidied word m l → IsTidied word m new × (part new.loose ≡ [])
 last-looked part word m l new more e told before =
-    let done : IsLooked part word false l new = subst (λ b. IsLooked part word b l new) e told in
-    (
+    let done : IsLooked part word false l new = subst (λ b. IsLooked part word b l new) e told in (
       subst (IsTidied word m) (sym done.0) before,
       subst (λ (p : Parts). part p.loose ≡ []) (sym done.0) done.1,
     )

@@ -143,7 +143,7 @@ next-timed s =
     let e = d ++ map rule_end s.rules in
     let f = e ++ map call_limit s.issues in
     let more : (es fs : List model.Timed) (o : Option Next) → o ≡ next_in es
-        → sooner o (next_in fs) ≡ next_in (es ++ fs) =
+    → sooner o (next_in fs) ≡ next_in (es ++ fs) =
     (λ es fs o h. ap (λ x. sooner x (next_in fs)) h ∙ sym (next-joined es fs)) in
     more e (map call_limit s.issues) _
     (more d (map rule_end s.rules) _

@@ -101,8 +101,7 @@ impl Parts {
         requires fit { IsNewFit (state_of self.old) (run_of origin) }
         ensures { OnOk result (Becomes (begin_run (run_of origin) (state_of self.old)) self.old self.new) }
     {
-        self.loose
-            .touch(origin.version, origin.events.as_slice())?;
+        self.loose.touch(origin.version, origin.events.as_slice())?;
         self.counts.runs = origin.number;
         let run = Run::new(self.alloc, origin);
         let item = self.item_of(&run, STEP)?;

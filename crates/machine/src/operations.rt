@@ -198,7 +198,12 @@ impl Parts {
     }
 
     /// A step waits for something.
-    pub(crate) fn pend(&mut self, run: u64, hash: &StepHash, kind: Pending) -> Result<Naming, Memory>
+    pub(crate) fn pend(
+        &mut self,
+        run: u64,
+        hash: &StepHash,
+        kind: Pending,
+    ) -> Result<Naming, Memory>
         requires held { IsHeld self.old }
         ensures named { IfOk result (λ n. n ≡ naming_in (pend_in hash.now kind) (live_run run (state_of self.old))) }
         ensures now { IfOk result (λ n. Becomes (if_new n

@@ -15,3 +15,17 @@ loop-op-preserved g c =
     c.take_operation.new.self c.loop-op.again c.in_ok-taken.taken c.in-Some.ensures.steps.0 c.loop-op.invariant
     c.in_ok-taken.ensures.taken c.in_ok-taken.ensures.now
     (not-stops c.in_ok-taken.taken (sym c.stops.ensures ∙ c.if-stops.false)))
+
+pub returns-then-stops-clause-taken : goal.returns-then-stops-clause-taken
+returns-then-stops-clause-taken g c =
+    (taking-stops c.args.item.now c.args.no_retry c.args.ops _ (into_iter_items c.next.new.self) c.in-Some.op
+    c.args.self.now c.loop-op.self c.take_operation.new.self c.loop-op.again c.in_ok-taken.taken
+    c.in-Some.ensures.steps.0 c.loop-op.invariant c.in_ok-taken.ensures.taken c.in_ok-taken.ensures.now
+    (stops-is c.in_ok-taken.taken (sym c.stops.ensures ∙ c.if-stops.true))).0
+
+pub returns-then-stops-clause-now : goal.returns-then-stops-clause-now
+returns-then-stops-clause-now g c =
+    (taking-stops c.args.item.now c.args.no_retry c.args.ops _ (into_iter_items c.next.new.self) c.in-Some.op
+    c.args.self.now c.loop-op.self c.take_operation.new.self c.loop-op.again c.in_ok-taken.taken
+    c.in-Some.ensures.steps.0 c.loop-op.invariant c.in_ok-taken.ensures.taken c.in_ok-taken.ensures.now
+    (stops-is c.in_ok-taken.taken (sym c.stops.ensures ∙ c.if-stops.true))).1
