@@ -1,6 +1,7 @@
 // Each call of each part.
-ghost use Rattle.std.specs.Prelude.{◌≡◌, ◌<◌, IfOk};
+ghost use Rattle.std.specs.Prelude.{◌≡◌, ◌<◌, [], IfOk};
 ghost use Rattle.kinds.specs.Stores.{rule_number, wait_number};
+ghost use Rattle.kinds.specs.Windows.{IsRule};
 ghost use Rattle.awaited.specs.Entries.{sleep_number, invocation_number};
 
 use crate::{Invocation, Invocations, Placed, Rules, Sleep, Sleeps, Waits, WindowSet};
@@ -229,28 +230,52 @@ fn told(placed: Placed) -> (bool, usize) {
     }
 }
 
-#[test]
-fn a_batch_names_its_events(rt: HostRuntime) -> Result<(), Fail> {
-    let rule = WindowRule::Batch(Batch {
-        size: 2,
+/// Events wait for up to five seconds.
+fn batch(size: u8) -> WindowRule
+    ensures { IsRule result }
+{
+    WindowRule::Batch(Batch {
+        size,
         timeout: 5_000,
         key: None,
-    });
-    let value = Bytes::new(rt.alloc());
+    })
+}
+
+/// Event 7 is offered to no windows.
+fn offered(alloc: Global, windows: &mut WindowSet, size: u8) -> Result<(bool, usize), Memory>
+    requires { windows.old ≡ [] }
+{
+    let placed = windows.offer(1, &batch(size), &Bytes::new(alloc), 7, 1_000, 3)?;
+    Ok(told(placed))
+}
+
+/// Whether event 7, event 3, and version 1 are named, and a window of the version is open.
+fn named(alloc: Global, windows: &WindowSet) -> (bool, bool, bool, bool) {
+    let key = (1, Bytes::new(alloc));
+    (
+        windows.names(7),
+        windows.names(3),
+        windows.names_version(1),
+        windows.find(&key).is_some(),
+    )
+}
+
+#[test]
+fn a_window_is_open_till_its_due(rt: HostRuntime) -> Result<(), Fail> {
     let mut windows = WindowSet::empty(rt.alloc());
-    let first = told(windows.offer(1, &rule, &value, 1, 0, 1)?);
-    assert_eq!(rt; first, (false, 0));
-    assert_eq!(rt; windows.first(), due(5_000, 1, 0));
-    assert_eq!(rt; (windows.names(1), windows.names(2)), (true, false));
-    assert!(rt; windows.names_version(1));
-    let second = told(windows.offer(1, &rule, &value, 2, 4_000, 2)?);
-    assert_eq!(rt; second, (true, 2));
-    assert!(rt; !windows.names(1));
-    let third = told(windows.offer(1, &rule, &value, 3, 4_000, 2)?);
-    assert_eq!(rt; third, (false, 0));
-    assert!(rt; windows.find(&(1, Bytes::new(rt.alloc()))).is_some());
-    assert!(rt; windows.fire(2).is_some());
-    assert!(rt; !windows.names_version(1));
+    assert_eq!(rt; offered(rt.alloc(), &mut windows, 2)?, (false, 0));
+    assert_eq!(rt; windows.first(), due(6_000, 3, 0));
+    assert_eq!(rt; named(rt.alloc(), &windows), (true, false, true, true));
+    assert!(rt; windows.fire(3).is_some());
+    assert_eq!(rt; named(rt.alloc(), &windows), (false, false, false, false));
+    assert_eq!(rt; windows.entries().count(), 0);
+    Ok(())
+}
+
+#[test]
+fn a_full_window_is_over(rt: HostRuntime) -> Result<(), Fail> {
+    let mut windows = WindowSet::empty(rt.alloc());
+    assert_eq!(rt; offered(rt.alloc(), &mut windows, 1)?, (false, 1));
     assert_eq!(rt; windows.entries().count(), 0);
     Ok(())
 }
