@@ -486,7 +486,7 @@ module _ (m : Parts) (events results ids : ℕ) (a : events ≡ counted_bytes m.
       subst (λ k. k < 2 ^ 64) (ap (λ n. n + ids) is ∙ kept-sum none h) below
 
   pub kept-exact : IsAtRest m → events + results + ids ≡ kept (state_of m)
-  kept-exact h = kept-sum h.loose.0.1 h.held
+  kept-exact h = kept-sum h.loose.1 h.held
 
   pub kept-fits : IsAtRest m → events + results + ids < 2 ^ 64
   kept-fits h = subst (λ k. k < 2 ^ 64) (sym (kept-exact h)) h.weighed
