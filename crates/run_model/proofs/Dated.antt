@@ -93,14 +93,14 @@ after-by : (t : ℕ) (r : WindowRule) (version : ℕ) (value : List ℕ) (event 
 after-by t r version value event m number None low h = opened-by t r version value event m number low
 after-by t r version value event m number (Some w) low h = joined-by t r event m w h
 
-standing-by : (t : ℕ) (r : WindowRule) (w : Window) (ws : List Window) → IsWindowBy t w
-    → AllByRecursion (IsWindowBy t) ws → AllByRecursion (IsWindowBy t) (standing r w ws)
-standing-by t r w ws own h =
+pub all-standing : (P : Window → Type 0) (r : WindowRule) (w : Window) (ws : List Window) → P w
+    → AllByRecursion P ws → AllByRecursion P (standing r w ws)
+all-standing P r w ws own h =
     let left : List Window = others (windows.version_of w) (windows.value_of w) ws in
-    let fewer : AllByRecursion (IsWindowBy t) left =
-    all-filter (IsWindowBy t) (λ v. not (is_of (windows.version_of w) (windows.value_of w) v)) ws h in
-    elim (is_full r w) as (λ b. AllByRecursion (IsWindowBy t) (cond b left (insert_window w left)))
-    [ true ↦ fewer | false ↦ all-inserted_in (IsWindowBy t) w left own fewer ]
+    let fewer : AllByRecursion P left =
+    all-filter P (λ v. not (is_of (windows.version_of w) (windows.value_of w) v)) ws h in
+    elim (is_full r w) as (λ b. AllByRecursion P (cond b left (insert_window w left)))
+    [ true ↦ fewer | false ↦ all-inserted_in P w left own fewer ]
 
 -- ## The changes
 
@@ -134,7 +134,7 @@ module _ (t : ℕ) where
     record {
       live_by = h.1.live_by;
       closing_by = h.1.closing_by;
-      windows_by = standing-by t r (window_after f r value event s) s.windows (window-by f r value event s h)
+      windows_by = all-standing (IsWindowBy t) r (window_after f r value event s) s.windows (window-by f r value event s h)
           h.1.windows_by;
       ended_by = h.1.ended_by;
     },

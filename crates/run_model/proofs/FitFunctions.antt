@@ -50,13 +50,13 @@ in-inserted_all g (f ∷ fs) es there = back (in-inserted_all g fs (insert_by ve
     back (inl more) = inl (inr more)
     back (inr more) = own (in-inserted f g es more)
 
-abbrev new_functions : App → State → List FunctionEntry
+abbrev pub new_functions : App → State → List FunctionEntry
 new_functions app s = numbered app.name s.versions (new_in app s.functions)
 
-abbrev IsOldOrNew : App → State → FunctionEntry → Type 0
+abbrev pub IsOldOrNew : App → State → FunctionEntry → Type 0
 IsOldOrNew app s f = IsIn f (s.functions ++ s.retired) ⊎ IsIn f (new_functions app s)
 
-old-or-new : (app : App) (s : State) (f : FunctionEntry)
+pub old-or-new : (app : App) (s : State) (f : FunctionEntry)
     → IsIn f ((with_functions app s).functions ++ (with_functions app s).retired) → IsOldOrNew app s f
 unfolding registered
 old-or-new app s f there =
@@ -84,12 +84,12 @@ old-or-new app s f there =
 -- ## New functions
 
 -- a version that wasn't given before, and a function of the list
-record IsNew (versions most : ℕ) (fs : List Function) (f : FunctionEntry) : Type 0 where
-  over : versions < f.version
-  low : f.version ≤ most
-  given : IsIn f.function fs
+pub record IsNew (versions most : ℕ) (fs : List Function) (f : FunctionEntry) : Type 0 where
+  pub over : versions < f.version
+  pub low : f.version ≤ most
+  pub given : IsIn f.function fs
 
-is-new : (name : List ℕ) (versions : ℕ) (fs : List Function) (f : FunctionEntry)
+pub is-new : (name : List ℕ) (versions : ℕ) (fs : List Function) (f : FunctionEntry)
     → IsIn f (numbered name versions fs) → IsNew versions (versions + length fs) fs f
 is-new name versions [] f there = absurd there
 is-new name versions (g ∷ gs) f (inl same) =

@@ -379,8 +379,8 @@ pub record IsSound (s : State) : Type 0 where
 
 -- Of each state that is reached, whatever inputs there were, this is a law: the first, third, fourth, sixth, eighth,
 -- tenth, twelfth, thirteenth, sixteenth, nineteenth and twentieth condition, and parts of others: what is there is
--- named, and once; wanted runs, events of runs and windows, and remembered ids. The ninth is one where functions are in
--- range and fewer than 2^64 entries were numbered; that functions have ids of their own is one where no registration
+-- named, and once; wanted runs, events of runs and windows, and remembered ids. The eighteenth is one where
+-- functions are in range, and so is the ninth while fewer than 2^64 entries were numbered; that functions have ids of their own is one where no registration
 -- names an id twice.
 pub record IsReached (s : State) : Type 0 where
   pub numbered : IsNumbered s

@@ -3,6 +3,7 @@ ghost use Rattle.kinds.specs.declared.input.Input.{Input};
 ghost use Rattle.kinds.specs.declared.limits.Limits.{Limits};
 ghost use Rattle.run_model.specs.Fit.{IsFit, IsInRange};
 ghost use Rattle.run_model.specs.Machine.{fold, step};
+ghost use Rattle.run_model.specs.Sound.{HasWindows};
 ghost use Rattle.run_model.specs.State.{State, empty};
 ghost use Rattle.std.specs.List.{AllByRecursion};
 ghost use Rattle.std.specs.Prelude.{List};
@@ -22,4 +23,11 @@ pub fn steps_stay_fit()
 pub fn histories_are_fit()
     ensures { (limits : Limits) (inputs : List Input) → AllByRecursion IsInRange inputs →
         IsFit (fold limits inputs) }
+{}
+
+/// In each of these no two windows are of one version and value, and the function of each window has a rule for windows
+/// of its kind: a batch has room, and a debounce is due by its timeout.
+pub fn windows_have_rules()
+    ensures { (limits : Limits) (inputs : List Input) → AllByRecursion IsInRange inputs →
+        HasWindows (fold limits inputs) }
 {}
