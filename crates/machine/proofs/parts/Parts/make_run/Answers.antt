@@ -6,7 +6,8 @@ use Rattle.machine.proofs.parts.Parts.make_run.Goals as goal
 
 pub add_rules-requires-clause-fit : goal.add_rules-requires-clause-fit
 add_rules-requires-clause-fit c =
-    decided-drafts c.args.self.now c.args.version c.in_ok-number.number c.first_of-first.result c.args.events c.in-Some.plan
+    decided-drafts c.args.self.now c.args.version c.in_ok-number.number c.first_of-first.result c.args.events
+    c.in-Some.plan
     (record {
       plan_is = sym c.in-Some.is ∙ c.in_ok-plan.ensures;
       next = c.in_ok-number.ensures;
@@ -15,7 +16,8 @@ add_rules-requires-clause-fit c =
 
 pub add_run-requires-clause-next : goal.add_run-requires-clause-next
 add_run-requires-clause-next c =
-    decided-next c.args.self.now c.args.version c.in_ok-number.number c.first_of-first.result c.args.events c.in-Some.plan
+    decided-next c.args.self.now c.args.version c.in_ok-number.number c.first_of-first.result c.args.events
+    c.in-Some.plan
     (record {
       plan_is = sym c.in-Some.is ∙ c.in_ok-plan.ensures;
       next = c.in_ok-number.ensures;
@@ -24,7 +26,8 @@ add_run-requires-clause-next c =
 
 pub add_run-requires-clause-fit : goal.add_run-requires-clause-fit
 add_run-requires-clause-fit c =
-    decided-fit c.args.self.now c.args.version c.in_ok-number.number c.first_of-first.result c.args.events c.in-Some.plan
+    decided-fit c.args.self.now c.args.version c.in_ok-number.number c.first_of-first.result c.args.events
+    c.in-Some.plan
     (record {
       plan_is = sym c.in-Some.is ∙ c.in_ok-plan.ensures;
       next = c.in_ok-number.ensures;
@@ -34,7 +37,8 @@ add_run-requires-clause-fit c =
 pub returns : goal.returns
 returns c =
     on-ok c.add_run.result _ _
-    (λ begun. held-make_run c.args.self.now c.args.version c.in_ok-number.number c.first_of-first.result c.args.events c.in-Some.plan
+    (λ begun. held-make_run c.args.self.now c.args.version c.in_ok-number.number c.first_of-first.result
+    c.args.events c.in-Some.plan
     (record {
       plan_is = sym c.in-Some.is ∙ c.in_ok-plan.ensures;
       next = c.in_ok-number.ensures;
