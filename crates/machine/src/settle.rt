@@ -9,19 +9,15 @@ ghost use Rattle.run_model.specs.Making.{text_or_none};
 ghost use Rattle.run_model.specs.Settle.{body_of, call_with, item_at, next_issued, settle};
 ghost use Rattle.run_model.specs.State.{text_of};
 ghost use Rattle.sdk_call.specs.Body.{call_path};
-ghost use Rattle.step_ids.specs.Run.{run_text};
 
 use crate::Parts;
+use crate::ends::id_of;
 use crate::results::copied;
 use kinds::{Function, Item, Out, Steps};
 use lists::{Items, Memory};
 use runs::Run;
 use sdk_call::{CallParts, CallText, call_text};
 use std::sync::ledger::Ledger;
-use step_ids::run_id;
-
-/// From this number on no run has an id: 2^62.
-const MOST_RUNS: u64 = 1 << 62;
 
 impl Parts {
     pub(crate) fn settle<L: Ledger>(
@@ -156,16 +152,4 @@ impl Parts {
         }
         Ok(texts)
     }
-}
-
-// The id of a run. A number that no id has counts as want of memory.
-fn id_of(run: &Run) -> Result<[u8; 36], Memory>
-    requires { run.now.moment ≤ last_moment }
-    ensures { IfOk result (λ id. id ≡ run_text run.now.moment run.now.number) }
-{
-    let number = run.number();
-    if number >= MOST_RUNS {
-        return Err(Memory);
-    }
-    Ok(run_id(run.moment(), number))
 }
