@@ -1,6 +1,7 @@
--- The next moment, the runs of an event by number, and a cancellation that is turned away.
-use Rattle.std.proofs.Common.{◌≡◌, ℕ, ◌==◌, Bool, true, false, cond, ◌||◌, List, [], ◌∷◌, ◌++◌, Option, Some, None, nat_le, refl, sym, ap, ap₂, ◌∙◌, subst}
+-- The next moment, the runs of an event by number, and what is turned away.
+use Rattle.std.proofs.Common.{◌≡◌, ℕ, ◌<◌, ◌≤◌, ◌==◌, Bool, true, false, cond, ◌||◌, List, [], ◌∷◌, ◌++◌, Option, Some, None, nat_le, refl, sym, ap, ap₂, ◌∙◌, arith, subst}
 use Rattle.std.specs.List.{list_any}
+use Rattle.std.proofs.lemmas.Bool.Decides.{nat_tests}
 use Rattle.std.proofs.lemmas.List.Folds.{list_any-append}
 use Rattle.lists.specs.Entries.{add_number, add_numbers, in_order}
 use Rattle.admission.specs.Admission.{issue_entries}
@@ -70,6 +71,12 @@ refused-cancel m s run b e none told =
     none (ap (λ c. cond c (Some (RunEnded run)) (Some (UnknownRun run))) (sym told)))
 
 -- ## Room for new work
+
+pub at-most : (n m : ℕ) → n ≤ m → nat_le n m ≡ true
+at-most n m h = grind (arith, nat_tests, h)
+
+pub not-most : (n m : ℕ) → m < n → nat_le n m ≡ false
+not-most n m h = grind (arith, nat_tests, h)
 
 pub refused-full : (m : Parts) (s : State) (k : ℕ) → state_of m ≡ s → k ≡ kept s
     → nat_le m.limits.kept k ≡ true → refusal_of_events s ≡ Some (KeptFull k)
