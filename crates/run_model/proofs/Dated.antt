@@ -39,19 +39,19 @@ use Rattle.run_model.proofs.TimedCounts.{length-last}
 
 -- ## By a moment
 
-record IsRunBy (t : ℕ) (r : Run) : Type 0 where
-  dated : r.moment ≤ t
-  named : 0 < length r.events
+pub record IsRunBy (t : ℕ) (r : Run) : Type 0 where
+  pub dated : r.moment ≤ t
+  pub named : 0 < length r.events
 
-record IsWindowBy (t : ℕ) (w : Window) : Type 0 where
-  begun : IsBegun t w
-  named : 0 < length (windows.events_of w)
+pub record IsWindowBy (t : ℕ) (w : Window) : Type 0 where
+  pub begun : IsBegun t w
+  pub named : 0 < length (windows.events_of w)
 
-record AreBy (t : ℕ) (live closing : List Run) (ws : List Window) (ended : List EndedRun) : Type 0 where
-  live_by : AllByRecursion (IsRunBy t) live
-  closing_by : AllByRecursion (IsRunBy t) closing
-  windows_by : AllByRecursion (IsWindowBy t) ws
-  ended_by : AllByRecursion (λ (e : EndedRun). e.moment ≤ t) ended
+pub record AreBy (t : ℕ) (live closing : List Run) (ws : List Window) (ended : List EndedRun) : Type 0 where
+  pub live_by : AllByRecursion (IsRunBy t) live
+  pub closing_by : AllByRecursion (IsRunBy t) closing
+  pub windows_by : AllByRecursion (IsWindowBy t) ws
+  pub ended_by : AllByRecursion (λ (e : EndedRun). e.moment ≤ t) ended
 
 begun-later : (t u : ℕ) (w : Window) → t ≤ u → IsBegun t w → IsBegun u w
 begun-later t u (window.Debounce number version value event first due) low h = omega (arith, low, h)
@@ -105,7 +105,7 @@ all-standing P r w ws own h =
 -- ## The changes
 
 module _ (t : ℕ) where
-  abbrev By : State → Type 0
+  abbrev pub By : State → Type 0
   By s = (s.moment ≤ t) × AreBy t s.live s.closing s.windows s.ended
 
   window-by : (f : FunctionEntry) (r : WindowRule) (value : List ℕ) (event : ℕ) (s : State) → By s
@@ -188,7 +188,7 @@ module _ (t : ℕ) where
     named = subst (λ (es : List ℕ). 0 < length es) (sym named) h.named;
   }
 
-  keeps-by : Keeps By
+  pub keeps-by : Keeps By
   keeps-by = freely By (record {
     accepts = λ event id s new h. by-accepted event id s h;
     starts = λ f event parent s there given h. by-started f (event ∷ []) parent s (omega arith) h;
@@ -257,7 +257,7 @@ module _ (t : ℕ) where
     },
   )
 
-  by-steps : KeepsSteps t (λ input. Unit {0}) (λ is s. By s)
+  pub by-steps : KeepsSteps t (λ input. Unit {0}) (λ is s. By s)
   by-steps = record {
     calls = dropping (λ is s. By s) (record {
       runs = λ is. keeps-by;
@@ -294,6 +294,9 @@ dated-after : (inputs : List Input) (s : State) → HasSeen s → AreDated s →
 dated-after [] s seen h = h
 dated-after (input ∷ inputs) s seen h =
     dated-after inputs (step s input).state (seen-step s input seen) (dated-step s input seen h)
+
+pub by-empty : (limits : Limits) → By last_moment (empty limits)
+by-empty limits = (omega arith, record { live_by = tt; closing_by = tt; windows_by = tt; ended_by = tt })
 
 are-dated : (limits : Limits) (inputs : List Input) → AreDated (fold limits inputs)
 are-dated limits inputs = dated-after inputs (empty limits) (seen-empty limits)

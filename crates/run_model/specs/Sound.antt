@@ -379,9 +379,11 @@ pub record IsSound (s : State) : Type 0 where
 
 -- Of each state that is reached, whatever inputs there were, this is a law: the first, third, fourth, sixth, eighth,
 -- tenth, twelfth, thirteenth, sixteenth, nineteenth and twentieth condition, and parts of others: what is there is
--- named, and once; wanted runs, events of runs and windows, and remembered ids. The eighteenth is one where
--- functions are in range, and so is the ninth while fewer than 2^64 entries were numbered; that functions have ids of their own is one where no registration
--- names an id twice.
+-- named, and once; wanted runs, events of runs and windows, and remembered ids. Where functions are in range, the
+-- eleventh and the eighteenth are laws, and so is the ninth while fewer than 2^64 entries were numbered; where no
+-- registration names an id twice, so is the seventeenth. Open are that what is named is there (second), calls of
+-- planned steps (fifth), that no run has two items or calls that find out (seventh), and the fourteenth; of the
+-- fifteenth only items that find out are left out.
 pub record IsReached (s : State) : Type 0 where
   pub numbered : IsNumbered s
   pub kept : KeepsNamed s

@@ -3,7 +3,7 @@ ghost use Rattle.kinds.specs.declared.input.Input.{Input};
 ghost use Rattle.kinds.specs.declared.limits.Limits.{Limits};
 ghost use Rattle.run_model.specs.Fit.{IsFit, IsInRange};
 ghost use Rattle.run_model.specs.Machine.{fold, step};
-ghost use Rattle.run_model.specs.Sound.{HasWindows};
+ghost use Rattle.run_model.specs.Sound.{HasWindows, IsFixed};
 ghost use Rattle.run_model.specs.State.{State, empty};
 ghost use Rattle.std.specs.List.{AllByRecursion};
 ghost use Rattle.std.specs.Prelude.{List};
@@ -30,4 +30,11 @@ pub fn histories_are_fit()
 pub fn windows_have_rules()
     ensures { (limits : Limits) (inputs : List Input) → AllByRecursion IsInRange inputs →
         HasWindows (fold limits inputs) }
+{}
+
+/// And each run and each window names an event, and a run's cells and throttle are those that its function gives for the
+/// text of its first event.
+pub fn runs_are_fixed()
+    ensures { (limits : Limits) (inputs : List Input) → AllByRecursion IsInRange inputs →
+        IsFixed (fold limits inputs) }
 {}

@@ -15,7 +15,9 @@ pub use calls::{
     items_stay_new, limits_are_kept, recorded_steps_are_not_called, runs_have_room_for_names,
     steps_are_recorded_once,
 };
-pub use fit::{empty_is_fit, histories_are_fit, steps_stay_fit, windows_have_rules};
+pub use fit::{
+    empty_is_fit, histories_are_fit, runs_are_fixed, steps_stay_fit, windows_have_rules,
+};
 pub use going::{
     invocations_have_children, live_runs_can_go_on, wanted_runs_find_out,
     what_falls_due_is_recorded, what_waits_is_pending,
