@@ -134,7 +134,8 @@ module _ (t : ℕ) where
     record {
       live_by = h.1.live_by;
       closing_by = h.1.closing_by;
-      windows_by = all-standing (IsWindowBy t) r (window_after f r value event s) s.windows (window-by f r value event s h)
+      windows_by = all-standing (IsWindowBy t) r (window_after f r value event s) s.windows
+          (window-by f r value event s h)
           h.1.windows_by;
       ended_by = h.1.ended_by;
     },

@@ -1,5 +1,5 @@
--- No two of items, sleeps, waits, invocations, rules, windows and limits of calls have one number: at each change, and so
--- through each step.
+-- No two of items, sleeps, waits, invocations, rules, windows and limits of calls have one number: at each change, and
+-- so through each step.
 use Rattle.std.proofs.Common.{◌≡◌, ◌≢◌, ℕ, inl, inr, ◌+◌, ◌<◌, ◌≤◌, ◌==◌, Bool, true, false, not, cond, List, [], ◌∷◌, ◌++◌, map, filter, find, length, Option, Some, None, is_some, refl, sym, ap, subst, nat_lt, arith, eq-eqb, eqb-true}
 use Rattle.std.specs.List.{AllByRecursion}
 use Rattle.std.specs.Ordering.{is_lt}

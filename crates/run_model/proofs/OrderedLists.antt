@@ -1,5 +1,5 @@
 -- Lists stand in order, and each version in one place: at each change, and so through each step. So all numbers rise.
-use Rattle.std.proofs.Common.{◌≡◌, ◌≢◌, ℕ, inl, inr, ◌+◌, ◌<◌, ◌≤◌, ◌==◌, Bool, true, false, not, cond, List, [], ◌∷◌, ◌++◌, map, filter, length, Option, Some, None, refl, sym, ap, ◌∙◌, subst, nat_lt, nat_le, arith, eq-eqb, eqb-true}
+use Rattle.std.proofs.Common.{◌≡◌, ◌≢◌, ℕ, inl, inr, ◌+◌, ◌<◌, ◌≤◌, ◌==◌, Bool, true, false, not, cond, List, [], ◌∷◌, ◌++◌, map, filter, length, Option, Some, None, refl, sym, ap, ◌∙◌, nat_lt, nat_le, arith, eq-eqb, eqb-true}
 use Rattle.std.specs.Cmp.{IsTotalOrder}
 use Rattle.std.specs.List.{AllByRecursion}
 use Rattle.std.specs.Ordering.{is_eq, is_lt, nat_cmp, ordering_reverse, ordering_then}
@@ -25,7 +25,6 @@ use Rattle.functions.specs.Functions.{new_in, numbered, registered, stays, versi
 use Rattle.functions.specs.declared.entry.FunctionEntry.{FunctionEntry}
 use Rattle.lists.proofs.Elements.{all-both, all-weaker}
 use Rattle.lists.specs.Entries.{insert_by, key_of, pair_cmp}
-use Rattle.run_model.specs.Advance.{without_window}
 use Rattle.run_model.specs.Ends.{end_run, run_number}
 use Rattle.run_model.specs.Events.{add_event, event_with}
 use Rattle.run_model.specs.Fit.{RunsStandOnce}
@@ -34,12 +33,11 @@ use Rattle.run_model.specs.Machine.{fold, insert_all, state_after, step, with_fu
 use Rattle.run_model.specs.Making.{is_item_of, new_item, queue, step_target}
 use Rattle.run_model.specs.Replies.{again}
 use Rattle.run_model.specs.Requests.{remember}
-use Rattle.run_model.specs.Settle.{issue}
 use Rattle.run_model.specs.Sound.{ArePairwise, IsNumbered, IsSeen, RemembersOnce, RiseTo, StandsApart, numbers_of, stands_before}
-use Rattle.run_model.specs.State.{State, Run, EndedRun, Issue, empty, has_open_call, is_version_named, moment_at, tidied, without_closed}
+use Rattle.run_model.specs.State.{State, Run, EndedRun, empty, has_open_call, is_version_named, moment_at, tidied, without_closed}
 use Rattle.run_model.proofs.Apart.{all-unmap, pairs-map, pairs-unmap}
 use Rattle.run_model.proofs.Awaiting.{Awaits, awaits-fold}
-use Rattle.run_model.proofs.EntryNumbers.{Bound, OnceEach, apart-counted, bound-less, counts, counts-both, counts-filter, counts-first, counts-map, counts-none, item_number, limit_number, once-fold, open_item, own}
+use Rattle.run_model.proofs.EntryNumbers.{Bound, OnceEach, apart-counted, bound-less, counts, counts-both, counts-filter, counts-first, counts-map, counts-none, item_number, limit_number, once-fold, open_item}
 use Rattle.run_model.proofs.FitRuns.{all-inserted, all-queued}
 use Rattle.run_model.proofs.FitWindows.{all-inserted_in, pairs-filter}
 use Rattle.run_model.proofs.Kept.{Keeps, freely, window_after, with_offer}

@@ -1,7 +1,7 @@
--- The cells and the throttle of a run are those of its function and its first event: at each change, and so through each
--- step.
-use Rattle.std.proofs.Common.{◌≡◌, ℕ, ◌⊎◌, inl, inr, ◌+◌, ◌<◌, ◌≤◌, ◌==◌, Bool, true, false, not, ◌||◌, List, [], ◌∷◌, ◌++◌, filter, find, length, Option, Some, None, IfSome, refl, sym, ap, ◌∙◌, subst, arith, eq-eqb, eqb-true}
-use Rattle.std.specs.List.{AllByRecursion, list_any}
+-- The cells and the throttle of a run are those of its function and its first event: at each change, and so through
+-- each step.
+use Rattle.std.proofs.Common.{◌≡◌, ℕ, ◌⊎◌, inl, inr, ◌+◌, ◌<◌, ◌≤◌, ◌==◌, true, not, List, [], ◌∷◌, ◌++◌, filter, find, length, Option, Some, None, IfSome, refl, sym, ap, subst, arith, eq-eqb, eqb-true}
+use Rattle.std.specs.List.{AllByRecursion}
 use Rattle.kinds.specs.Inputs.{reading}
 use Rattle.kinds.specs.Moments.{last_moment}
 use Rattle.kinds.specs.Windows as windows
@@ -15,8 +15,7 @@ use Rattle.kinds.specs.declared.store.RunStatus.{RunStatus}
 use Rattle.functions.specs.Functions.{new_in}
 use Rattle.functions.specs.declared.entry.FunctionEntry.{FunctionEntry}
 use Rattle.event_keys.specs.Cells.{cells_of, start_of}
-use Rattle.lists.proofs.Elements.{all-both, all-filter, all-last, all-weaker, filter-passes}
-use Rattle.run_model.specs.Advance.{without_window}
+use Rattle.lists.proofs.Elements.{all-both, all-filter, all-last, all-weaker}
 use Rattle.run_model.specs.Ends.{end_run, run_number}
 use Rattle.run_model.specs.Events.{add_event, event_with}
 use Rattle.run_model.specs.Fit.{AreRunsFit, IsFit, IsInRange, IsRunFit}
@@ -27,17 +26,17 @@ use Rattle.run_model.specs.Recording.{change_run, record_in}
 use Rattle.run_model.specs.Replies.{want, with_plan}
 use Rattle.run_model.specs.Requests.{remember}
 use Rattle.run_model.specs.Settle.{called}
-use Rattle.run_model.specs.Sound.{HasCells, IsFixed, all_runs}
-use Rattle.run_model.specs.State.{State, Run, EventText, empty, function_at, has_open_call, is_in, is_named, is_version_named, moment_at, tidied, without_closed}
+use Rattle.run_model.specs.Sound.{HasCells, IsFixed}
+use Rattle.run_model.specs.State.{State, Run, EventText, empty, function_at, has_open_call, is_in, is_named, is_version_named, tidied, without_closed}
 use Rattle.run_model.proofs.Dated.{By, IsRunBy, all-named, by-empty, by-steps, keeps-by}
 use Rattle.run_model.proofs.FitEvents.{find-last}
 use Rattle.run_model.proofs.FitFunctions.{IsNew, IsOldOrNew, is-new, old-or-new}
 use Rattle.run_model.proofs.FitRuns.{all-changed, all-inserted, first-given, fit-invocations, fit-record_result, fit-rules, fit-sleeps, fit-waits}
 use Rattle.run_model.proofs.FitSteps.{FitBeside, fit-changes, fit-drops, fit-empty, keeps-calls, keeps-steps, moment-within}
-use Rattle.run_model.proofs.Kept.{IsFunction, IsLive, Keeps, freely, keeps-both, run_from, started, window_after, with_offer}
+use Rattle.run_model.proofs.Kept.{IsFunction, IsLive, Keeps, freely, keeps-both, run_from, started, window_after}
 use Rattle.run_model.proofs.KeptReplies.{dropping}
 use Rattle.run_model.proofs.KeptSteps.{KeepsSteps, kept-step}
-use Rattle.run_model.proofs.Members.{all-in, any-in, each-in, in-all, in-back, in-either, in-filter, in-found, in-front}
+use Rattle.run_model.proofs.Members.{any-in, each-in, in-all, in-back, in-either, in-filter, in-found, in-front}
 use Rattle.run_model.proofs.SettlingLists.{all-append, find-filter, found-passes, or-left, or-right}
 
 -- ## What holds

@@ -1,7 +1,7 @@
 -- What is there is named, and stands once: in each state that is reached.
-use Rattle.std.proofs.Common.{◌≡◌, ◌≢◌, ℕ, ◌+◌, ◌-◌, ◌≤◌, ◌==◌, Bool, true, false, not, ◌||◌, cond, List, [], ◌∷◌, ◌++◌, map, filter, take, drop, length, min, Option, Some, None, refl, sym, ap, ◌∙◌, subst, arith, eq-eqb, eqb-true, length-take, take-append-drop}
+use Rattle.std.proofs.Common.{◌≡◌, ◌≢◌, ℕ, ◌+◌, ◌-◌, ◌==◌, Bool, true, false, ◌||◌, cond, List, [], ◌∷◌, ◌++◌, map, filter, take, drop, length, min, Option, Some, None, refl, sym, ap, ◌∙◌, subst, arith, eq-eqb, eqb-true, length-take, take-append-drop}
 use Rattle.std.proofs.lemmas.List.{length-map}
-use Rattle.std.specs.List.{AllByRecursion, list_any}
+use Rattle.std.specs.List.{AllByRecursion}
 use Rattle.kinds.specs.Inputs.{reading}
 use Rattle.kinds.specs.declared.event.EventIn.{EventIn}
 use Rattle.kinds.specs.declared.input.Input.{Input}
@@ -13,11 +13,10 @@ use Rattle.lists.proofs.Elements.{all-both, all-filter, all-weaker, filter-passe
 use Rattle.run_model.specs.Ends.{end_run, ended_run, run_number}
 use Rattle.run_model.specs.Events.{add_event, event_with}
 use Rattle.run_model.specs.Fit.{RunsStandOnce}
-use Rattle.run_model.specs.Laws.{IsIn}
 use Rattle.run_model.specs.Machine.{fold, state_after, step}
 use Rattle.run_model.specs.Requests.{remember}
-use Rattle.run_model.specs.Sound.{KeepsNamed, StandsOnce, before_last, ended_numbers, numbers_of}
-use Rattle.run_model.specs.State.{State, Run, EndedRun, EventText, empty, has_open_call, is_in, is_named, is_version_named, last_or, moment_at, tidied, without_closed}
+use Rattle.run_model.specs.Sound.{KeepsNamed, StandsOnce, before_last, ended_numbers}
+use Rattle.run_model.specs.State.{State, Run, EndedRun, empty, has_open_call, is_in, is_named, is_version_named, last_or, moment_at, tidied, without_closed}
 use Rattle.run_model.proofs.Apart.{all-unmap, not-same, pairs-unmap}
 use Rattle.run_model.proofs.EntryNumbers.{counts, counts-first}
 use Rattle.run_model.proofs.FitRuns.{all-inserted}

@@ -1,5 +1,5 @@
 -- The function of each window has a rule for windows of its kind: at each change, and so through each step.
-use Rattle.std.proofs.Common.{◌≡◌, ℕ, ◌⊎◌, inl, inr, ◌+◌, ◌<◌, ◌≤◌, ◌==◌, Bool, true, false, not, List, [], ◌∷◌, ◌++◌, map, filter, find, length, Option, Some, None, IfSome, is_some, option_map, refl, sym, ap, ◌∙◌, subst, arith, eqb-true}
+use Rattle.std.proofs.Common.{◌≡◌, ℕ, ◌⊎◌, inl, inr, ◌+◌, ◌==◌, Bool, true, not, List, [], ◌∷◌, ◌++◌, filter, find, length, Option, Some, None, IfSome, is_some, option_map, refl, sym, ap, ◌∙◌, subst, arith, eqb-true}
 use Rattle.std.specs.List.{AllByRecursion}
 use Rattle.kinds.specs.Inputs.{reading}
 use Rattle.kinds.specs.Moments.{last_moment}
@@ -19,20 +19,20 @@ use Rattle.kinds.specs.declared.window.WindowRule.{WindowRule}
 use Rattle.kinds.specs.declared.window.WindowRule.TheVariants as rule
 use Rattle.functions.specs.Functions.{new_in}
 use Rattle.functions.specs.declared.entry.FunctionEntry.{FunctionEntry}
-use Rattle.lists.proofs.Elements.{all-both, all-filter, all-weaker}
+use Rattle.lists.proofs.Elements.{all-filter, all-weaker}
 use Rattle.run_model.specs.Events.{add_event, event_with, window_of, window_rule, window_rule_of}
 use Rattle.run_model.specs.Fit.{HasRoom, IsFit, IsInRange, IsWindowFit}
 use Rattle.run_model.specs.Laws.{IsIn}
 use Rattle.run_model.specs.Machine.{fold, state_after, step, with_functions}
 use Rattle.run_model.specs.Requests.{remember}
 use Rattle.run_model.specs.Sound.{HasRule, HasWindows, Suits, rule_for}
-use Rattle.run_model.specs.State.{State, empty, function_at, is_version_named, moment_at, tidied, without_closed}
+use Rattle.run_model.specs.State.{State, empty, function_at, is_version_named, tidied, without_closed}
 use Rattle.run_model.proofs.Dated.{all-standing}
 use Rattle.run_model.proofs.FitFunctions.{IsNew, IsOldOrNew, is-new, old-or-new}
 use Rattle.run_model.proofs.FitRuns.{fit-invocations, fit-record_result, fit-rules, fit-sleeps, fit-waits}
 use Rattle.run_model.proofs.FitSteps.{FitBeside, fit-changes, fit-drops, fit-empty, keeps-calls, keeps-steps, moment-within}
 use Rattle.run_model.proofs.FitWindows.{and-first, joined-version, opened-version}
-use Rattle.run_model.proofs.Kept.{IsFunction, Keeps, MayJoin, freely, keeps-both, window_after, with_offer}
+use Rattle.run_model.proofs.Kept.{Keeps, MayJoin, freely, keeps-both, window_after, with_offer}
 use Rattle.run_model.proofs.KeptReplies.{dropping}
 use Rattle.run_model.proofs.KeptSteps.{KeepsSteps, kept-step}
 use Rattle.run_model.proofs.Members.{all-in, in-all, in-back, in-either, in-filter, in-found, in-front}
@@ -135,7 +135,8 @@ ruled-registered app s h f there = of_either (old-or-new app s f there)
         let k : IsNew s.versions (s.versions + length (new_in app s.functions)) (new_in app s.functions) f =
         is-new app.name s.versions (new_in app s.functions) f new in
         all-weaker (IsWindowFit s.events s.entries s.versions) (HasRuleOf f) s.windows
-        (λ w (low : IsWindowFit s.events s.entries s.versions w) same. absurd (omega (arith, same, low.version, k.over)))
+        (λ w (low : IsWindowFit s.events s.entries s.versions w) same.
+        absurd (omega (arith, same, low.version, k.over)))
         h.0.windows_fit.each
 
 ruled-tidied : (s : State) → Ruled s → Ruled (tidied s)

@@ -32,8 +32,8 @@ pub fn windows_have_rules()
         HasWindows (fold limits inputs) }
 {}
 
-/// And each run and each window names an event, and a run's cells and throttle are those that its function gives for the
-/// text of its first event.
+/// And each run and each window names an event, and a run's cells and throttle are those that its function gives for
+/// the text of its first event.
 pub fn runs_are_fixed()
     ensures { (limits : Limits) (inputs : List Input) → AllByRecursion IsInRange inputs →
         IsFixed (fold limits inputs) }
