@@ -201,14 +201,6 @@ held-again m i after a queued aside h =
 
 -- ## A call that ends, and what follows
 
-pub not-true : (b : Bool) → not b ≡ true → b ≡ false
-not-true true h = cc
-not-true false h = refl
-
-pub not-false : (b : Bool) → not b ≡ false → b ≡ true
-not-false true h = refl
-not-false false h = cc
-
 some-is : {X : Type 0} (found : Option X) → true ≡ is_some found → found ≡ None → ⊥
 some-is None h none = cc
 some-is (Some x) h none = cc

@@ -2,7 +2,7 @@ use Rattle.std.proofs.Common.{◌∙◌, sym}
 use Rattle.machine.specs.Held.{Becomes}
 use Rattle.machine.specs.View.{state_of}
 use Rattle.machine.proofs.HeldMaking.{on-ok}
-use Rattle.machine.proofs.HeldReplies.{call-answered, call-late, call-unknown, none-of, not-false, not-true, stands-aside}
+use Rattle.machine.proofs.HeldReplies.{call-answered, call-late, call-unknown, none-of, stands-aside}
 use Rattle.machine.proofs.parts.Parts.on_reply.Goals as goal
 
 pub returns-in_default : goal.returns-in_default
@@ -14,7 +14,7 @@ pub returns-then-not-is_live : goal.returns-then-not-is_live
 returns-then-not-is_live g c =
     call-late c.args.call c.args.self.now c.close.new.self c.in_ok-item.ensures.now c.in-Some.item
     (sym c.in-Some.is ∙ c.in_ok-item.ensures.item) c.args.reply.now
-    (sym (not-true c.is_live.result c.if-not-is_live.true) ∙ c.is_live.ensures)
+    (sym c.if-not-is_live.true ∙ c.is_live.ensures)
 
 pub take_outcome-requires-clause-aside : goal.take_outcome-requires-clause-aside
 take_outcome-requires-clause-aside g c =
@@ -27,5 +27,5 @@ returns g c =
     (λ found. call-answered c.args.call c.args.self.now c.close.new.self c.in_ok-item.ensures.now c.in-Some.item
     (sym c.in-Some.is ∙ c.in_ok-item.ensures.item) c.take_outcome.new.self c.discover.new.self c.args.reply.now
     c.in_ok-outcome.outcome c.in_ok-outcome.ensures
-    (sym (not-false c.is_live.result c.if-not-is_live.false) ∙ c.is_live.ensures) c.in_ok-take_outcome.ensures found)
+    (sym c.if-not-is_live.false ∙ c.is_live.ensures) c.in_ok-take_outcome.ensures found)
     c.discover.ensures.now
