@@ -1,6 +1,5 @@
 -- The definition of accepted lines on examples.
-use Rattle.std.proofs.Common.{◌≡◌, [], ◌∷◌, codes, refl}
-use Rattle.run_model.specs.Machine.{act}
+use Rattle.std.proofs.Common.{◌≡◌, [], codes, refl}
 use Rattle.replay_core.specs.Accepted.{accepted_line, accepted_lines}
 use Rattle.replay_core.specs.Pieces.{all_lines, lines_of}
 use Rattle.replay_core.specs.Replay.{on_line, start}
@@ -17,8 +16,3 @@ row-passed = refl
 row-outside : accepted_lines (start Full) (all_lines (lines_of (codes "bogus\n0 EVENT x i1"))) ≡ []
 unfolding accepted_line accepted_lines lines_of on_line read_line u64_of
 row-outside = refl
-
--- a repeated event is accepted, and each line is kept without the byte that ends it
-row-repeated : accepted_lines (start Full) (all_lines (lines_of (codes "0 EVENT x i1\n0 EVENT x i1"))) ≡ codes "0 EVENT x i1" ∷ codes "0 EVENT x i1" ∷ []
-unfolding accepted_line accepted_lines lines_of on_line read_line u64_of act on_events
-row-repeated = refl

@@ -6,6 +6,7 @@ mod LogRun
 mod LoggedLemmas
 mod PiecesLemmas
 mod PrintLemmas
+mod RangeLemmas
 mod ReaderLemmas
 mod ReplayLemmas
 mod RunLemmas

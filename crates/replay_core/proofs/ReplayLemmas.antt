@@ -1,5 +1,5 @@
 -- What lines say, part after part.
-use Rattle.std.proofs.Common.{◌≡◌, ℕ, zero, suc, ◌+◌, ◌<◌, ◌≤◌, ◌==◌, ⊥, true, List, [], ◌∷◌, ◌++◌, length, length-append, nat_lt, MatchBool, Bool, false, refl, ap, ◌∙◌, sym, append_assoc, append-nil, arith, get_or, Option, Some, None}
+use Rattle.std.proofs.Common.{◌≡◌, ℕ, zero, suc, ◌+◌, ◌<◌, ◌≤◌, ◌==◌, true, List, [], ◌∷◌, ◌++◌, length, length-append, nat_lt, MatchBool, Bool, false, refl, ap, ◌∙◌, sym, append_assoc, append-nil, arith, get_or, Option, Some, None}
 use Rattle.std.specs.List.{position}
 use Rattle.std.proofs.lemmas.List.{length-take}
 use Rattle.std.proofs.lemmas.List.Quantifiers.{position-Some}
@@ -98,7 +98,7 @@ open-text line more is = by-place (position (λ byte. byte == line_feed) (line +
     by-place None e = omega (arith, length-append line more)
     by-place (Some i) e =
         let found = position-Some (λ byte. byte == line_feed) (line ++ more) i 0 e in
-        let behind = not-before i line more is found.1.0 in
+        let behind = not-before i line more is found.1 in
         let within = found.0 in
         simp length-take (omega (arith, behind, within))
 
@@ -129,3 +129,7 @@ within-room room line within = grind (arith, within)
 
 pub within-line : (room : ℕ) (line : List ℕ) → passes_limits room line ≡ false → length (text_of_line line) ≤ line_limit
 within-line room line within = grind (arith, within)
+
+-- a test of a line as it was taken
+pub limits-at : (room taken : ℕ) (line text : List ℕ) (test value : Bool) → test ≡ passes_limits taken text → taken ≡ room → text ≡ line → test ≡ value → passes_limits room line ≡ value
+limits-at room taken line text test value is r l e = rw (sym r, sym l) (sym is ∙ e)

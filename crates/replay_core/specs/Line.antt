@@ -63,9 +63,9 @@ registration_line at body = option_map Asks (register_request at body)
 
 -- ## Replies
 
--- three digits, the first of them not 0
+-- a number from 100 to 999, in three digits
 abbrev pub status_at : List ℕ → ℕ → Option ℕ
-status_at word n = if (length word == 3) && nat_le 100 n then Some n else None
+status_at word n = if (length word == 3) && (nat_le 100 n && nat_le n 999) then Some n else None
 
 abbrev pub status_of : List ℕ → Option ℕ
 status_of word = option_and_then (status_at word) (result_ok (u64_of word))

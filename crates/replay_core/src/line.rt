@@ -6,7 +6,7 @@ ghost use Rattle.replay_core.specs.Line.{Split, at_reading, event_line, event_na
 ghost use Rattle.replay_core.specs.Line.{is_passed, line_of_kind, numbered_line, read_line, registration_line, split_word, timed_line, word_line};
 ghost use Rattle.replay_core.specs.Pieces.{text_of_line};
 ghost use Rattle.replay_core.specs.declared.line.Line.TheVariants.{Asks};
-ghost use Rattle.requests.specs.declared.requested.Requested.TheVariants.{Input};
+ghost use Rattle.requests.specs.declared.requested.Requested.TheVariants as requested;
 
 use crate::bytes::find_byte;
 use crate::reply::reply_line;
@@ -115,7 +115,7 @@ fn numbered_line(at: u64, kind: &[u8], rest: &[u8]) -> Option<Line>
 
 // A line that is an input as it stands.
 fn asks(input: Input) -> Line
-    ensures { result ≡ Asks (Input input) }
+    ensures { result ≡ Asks (requested.Input input) }
 {
     Line::Asks(Requested::Input(input))
 }

@@ -1,5 +1,5 @@
 // The run of a script together with the journal of its accepted lines.
-ghost use Rattle.std.specs.Prelude.{◌≡◌, ◌<◌, ◌≤◌, ◌++◌, ◌+◌, [], true, IfErr, IfOk, OnErr, OnOk, length};
+ghost use Rattle.std.specs.Prelude.{◌≡◌, ◌<◌, ◌≤◌, ◌++◌, ◌+◌, [], false, true, IfErr, IfOk, OnErr, OnOk, length};
 ghost use Rattle.journal_core.specs.Records.{StandsFor, greatest};
 ghost use Rattle.replay_core.specs.Accepted.{accepted_line, accepted_lines, line_where};
 ghost use Rattle.replay_core.specs.Log.{FinishesLog, IsBlank, IsLogging, Logs, StandsForEither, StopsLog, payloads_in};

@@ -1,6 +1,6 @@
 // The lines that a script's run prints, as texts.
 ghost use Rattle.std.specs.Prelude.{◌≡◌, ◌∷◌, ◌++◌, [], IfOk, OnOk, codes, decimal, flat_map, if◌then◌else◌};
-ghost use Rattle.replay_core.specs.Replay.{body_text, brief_call, end_line, event_id, full_call, ids_text, port_text, printed};
+ghost use Rattle.replay_core.specs.Replay.{body_text, brief_call, brief_run, end_line, event_id, full_call, ids_text, port_text, printed};
 
 use crate::form::Form;
 use kinds::Out;
@@ -53,8 +53,7 @@ fn push_out(form: Form, out: &Out, text: &mut Bytes) -> Result<(), Memory>
             }
             Form::Brief => {
                 push_target(*call, function.as_slice(), target.as_slice(), text)?;
-                push_counts(*run, *attempt, *steps, text)?;
-                push_events(events.as_slice(), text)
+                push_run(*run, *attempt, *steps, events.as_slice(), text)
             }
         },
     }
@@ -71,6 +70,20 @@ fn push_target(call: u64, function: &[u8], target: &[u8], text: &mut Bytes) -> R
     text.extend_from_slice(function)?;
     text.push(b' ')?;
     text.extend_from_slice(target)
+}
+
+// What stands behind the target, and the end of the line.
+fn push_run(
+    run: u64,
+    attempt: u8,
+    steps: u64,
+    events: &[u64],
+    text: &mut Bytes,
+) -> Result<(), Memory>
+    ensures { OnOk result (text.new ≡ text.old ++ brief_run run attempt steps events.now) }
+{
+    push_counts(run, attempt, steps, text)?;
+    push_events(events, text)
 }
 
 // ` run R attempt A steps S`.

@@ -15,6 +15,7 @@ use crate::printing::{end_line, out_text, outs_text};
 use kinds::{Input, Limits, Out, Refusal, Steps};
 use lists::{Bytes, Items, Memory};
 use machine::Machine;
+use registry::read_functions_are_in_range;
 use requests::Requested;
 use std::alloc::Global;
 use std::marker::{Brand, Model};
@@ -94,6 +95,8 @@ impl Progress {
             (λ e. (e ≡ fault.Memory) ⊎ (is_accepted self.state (line_read line.now) ≡ false)) }
         ensures room { IfOk result (λ ran. ran.progress.room + length line.now ≡ self.room) }
     {
+        // So a registration that was read meets what the machine asks of its functions.
+        read_functions_are_in_range();
         let counted = self.count_line(line.len());
         match read_line(counted.alloc, text_of_line(line))? {
             None => Err(LineFault::Outside {

@@ -39,12 +39,12 @@ fn reply_to(alloc: Global, at: u64, call: u64, text: &[u8]) -> Result<Option<Lin
     Ok(Some(Line::Asks(Requested::Input(Input::Reply { at, call, reply }))))
 }
 
-// Three digits, the first of them not 0.
+// A number from 100 to 999, in three digits.
 fn status_of(word: &[u8]) -> Option<u16>
     ensures { result ≡ status_of word.now }
 {
     let status = read_u64(word).ok()?;
-    if word.len() == 3 && status >= 100 {
+    if word.len() == 3 && (100..=999).contains(&status) {
         u16::try_from(status).ok()
     } else {
         None

@@ -1,4 +1,4 @@
-use Rattle.std.proofs.Common.{◌≡◌, ◌∙◌, ◌≤◌, ◌+◌, ℕ, List, [], Err, Ok, ap, arith, length, subst, sym}
+use Rattle.std.proofs.Common.{◌≡◌, ◌∙◌, ◌≤◌, ◌+◌, ℕ, List, [], true, false, Err, Ok, ap, arith, length, subst, sym}
 use Rattle.std.proofs.lemmas.Result.{err_from_is_err_and}
 use Rattle.replay_core.specs.Accepted.{accepted_line, accepted_lines}
 use Rattle.replay_core.specs.Log.{FinishesLog, StopsLog}
@@ -7,7 +7,7 @@ use Rattle.replay_core.specs.Replay.{finish, on_line, on_lines}
 use Rattle.replay_core.specs.Run.{Finishes, Says}
 use Rattle.replay_core.proofs.LogLemmas.{logs-stands}
 use Rattle.replay_core.proofs.LogRun.{log-finish-fault, log-finished, log-line-fault, log-memory, log-nothing, log-outside, log-sink, log-source}
-use Rattle.replay_core.proofs.ReplayLemmas.{over-limit}
+use Rattle.replay_core.proofs.ReplayLemmas.{limits-at, over-limit, within-room}
 use Rattle.replay_core.proofs.RunLemmas.{at-end, at-false, at-true, moved-lengths, run-finish-fault, run-finished, run-line-fault, run-memory, run-nothing, run-outside, run-sink, run-source, running-moved, running-start, running-written, smaller-line, smaller-read, step-ran, step-read, unended-none, writes-all}
 use Rattle.replay_core.proofs.script.run_all.Goals as goal
 
@@ -46,18 +46,18 @@ returns-in_err-ended-clause-log g c =
     let p = err_from_is_err_and c.from_residual-in_err-ended.result c.from_residual-in_err-ended.ensures.1 in
     rw (p.1, p.2) (log-memory c.args.form _ _ _ _ _ c.args.rig.now _ _ _ c.reading.invariant.running)
 
-pub returns-then-line-room-clause-run : goal.returns-then-line-room-clause-run
-returns-then-line-room-clause-run g c =
+pub returns-then-passes_limits-clause-run : goal.returns-then-passes_limits-clause-run
+returns-then-passes_limits-clause-run g c =
     let a = c.end_line.new.self in
     let moved = running-moved c.args.form _ _ _ _ _ _ _ c.reading.lines a c.reading.invariant.running c.in_ok-ended.ensures.moved in
-    let over = λ (more : List ℕ). over-limit c.reading.logged.progress c.in_ok-ended.ended a.line more _ _ c.in_ok-ended.ensures.ended (omega (arith, c.if-line-room.true, c.room.ensures, ap length c.line.ensures)) in
+    let over = λ (more : List ℕ). over-limit c.reading.logged.progress c.in_ok-ended.ended a.line more _ _ c.in_ok-ended.ensures.ended (limits-at _ _ _ _ _ true c.passes_limits.ensures c.room.ensures c.line.ensures c.if-passes_limits.true) in
     rw c.next_line.ensures (run-outside c.args.form _ _ _ _ _ _ c.reading.logged a (c.reading.logged.progress.lines + 1) moved (λ more. (over more).0))
 
-pub returns-then-line-room-clause-log : goal.returns-then-line-room-clause-log
-returns-then-line-room-clause-log g c =
+pub returns-then-passes_limits-clause-log : goal.returns-then-passes_limits-clause-log
+returns-then-passes_limits-clause-log g c =
     let a = c.end_line.new.self in
     let moved = running-moved c.args.form _ _ _ _ _ _ _ c.reading.lines a c.reading.invariant.running c.in_ok-ended.ensures.moved in
-    let over = λ (more : List ℕ). over-limit c.reading.logged.progress c.in_ok-ended.ended a.line more _ _ c.in_ok-ended.ensures.ended (omega (arith, c.if-line-room.true, c.room.ensures, ap length c.line.ensures)) in
+    let over = λ (more : List ℕ). over-limit c.reading.logged.progress c.in_ok-ended.ended a.line more _ _ c.in_ok-ended.ensures.ended (limits-at _ _ _ _ _ true c.passes_limits.ensures c.room.ensures c.line.ensures c.if-passes_limits.true) in
     rw c.next_line.ensures (log-outside c.args.form _ _ _ _ _ _ c.args.rig.now _ c.reading.logged a (c.reading.logged.progress.lines + 1) moved (λ more. (over more).1) c.reading.invariant.starved)
 
 pub returns-in_err-logged-2-clause-run : goal.returns-in_err-logged-2-clause-run
@@ -87,7 +87,7 @@ reading-smaller-in_ok-write_full g c =
     let both = at-true c.in_ok-ended.ended _ _ c.if-ended.true c.in_ok-ended.ensures.ended in
     let lengths = moved-lengths a.line a.unread c.reading.lines.line c.reading.lines.unread c.in_ok-ended.ensures.moved in
     let same : length c.line-line.result.now ≡ length a.line = ap length c.line-line.ensures in
-    let within : length a.line ≤ c.reading.logged.progress.room = omega (arith, c.if-line-room.false, c.room.ensures, ap length c.line.ensures) in
+    let within : length a.line ≤ c.reading.logged.progress.room = within-room _ a.line (limits-at _ _ _ _ _ false c.passes_limits.ensures c.room.ensures c.line.ensures c.if-passes_limits.false) in
     let counted : c.in_ok-logged-2.logged.progress.room + length a.line ≡ c.reading.logged.progress.room = omega (arith, same, c.in_ok-logged-2.ensures.room) in
     smaller-line c.reading.logged.progress.room (length c.reading.lines.line) (length c.reading.lines.unread) (length a.line) (length a.unread) c.in_ok-logged-2.logged.progress.room (length c.begin_line.new.self.line) (length c.begin_line.new.self.unread) lengths both.1 within counted (ap length c.begin_line.ensures.line) (ap length c.begin_line.ensures.unread)
 
@@ -207,7 +207,7 @@ reading-smaller g c =
     let a = c.end_line.new.self in
     let un = at-false c.in_ok-ended.ended _ _ c.if-ended.false c.in_ok-ended.ensures.ended in
     let lengths = moved-lengths a.line a.unread c.reading.lines.line c.reading.lines.unread c.in_ok-ended.ensures.moved in
-    let within : length a.line ≤ c.reading.logged.progress.room = omega (arith, c.if-line-room.false, c.room.ensures, ap length c.line.ensures) in
+    let within : length a.line ≤ c.reading.logged.progress.room = within-room _ a.line (limits-at _ _ _ _ _ false c.passes_limits.ensures c.room.ensures c.line.ensures c.if-passes_limits.false) in
     smaller-read c.reading.logged.progress.room (length c.reading.lines.line) (length c.reading.lines.unread) (length a.line) (length a.unread) (length c.read.new.self.line) (length c.read.new.self.unread) lengths (ap length un.1) within (ap length c.in_ok-over.ensures.line) (at-false c.in_ok-over.over _ _ c.if-over.false c.in_ok-over.ensures.over)
 
 pub reading-preserved : goal.reading-preserved
@@ -215,7 +215,7 @@ reading-preserved g c =
     let a = c.end_line.new.self in
     let moved = running-moved c.args.form _ _ _ _ _ _ _ c.reading.lines a c.reading.invariant.running c.in_ok-ended.ensures.moved in
     let un = at-false c.in_ok-ended.ended _ _ c.if-ended.false c.in_ok-ended.ensures.ended in
-    let within : length a.line ≤ c.reading.logged.progress.room = omega (arith, c.if-line-room.false, c.room.ensures, ap length c.line.ensures) in
+    let within : length a.line ≤ c.reading.logged.progress.room = within-room _ a.line (limits-at _ _ _ _ _ false c.passes_limits.ensures c.room.ensures c.line.ensures c.if-passes_limits.false) in
     record {
       running = step-read c.args.form _ _ _ _ _ _ _ _ _ _ a c.read.new.self moved c.in_ok-write_said.ensures.all c.in_ok-write_said.ensures.left un.1 c.in_ok-over.ensures.line c.in_ok-over.ensures.reads;
       unended = subst IsUnended (sym c.in_ok-over.ensures.line) un.0;
