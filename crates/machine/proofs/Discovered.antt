@@ -1,6 +1,5 @@
 -- Each run that wants to find out what comes next gets its item, one noted run after the other.
-use Rattle.std.proofs.Common.{◌≡◌, ℕ, ◌<◌, ◌≤◌, ◌==◌, Bool, true, false, not, cond, ◌&&◌, ◌||◌, List, [], ◌∷◌, map, filter, find, Option, Some, None, nat_lt, refl, sym, ap, ◌∙◌, arith, subst, eqb-true}
-use Rattle.std.specs.BTreeMap.{is_at}
+use Rattle.std.proofs.Common.{◌≡◌, ℕ, ◌<◌, ◌≤◌, ◌==◌, Bool, true, false, not, cond, ◌&&◌, List, [], ◌∷◌, map, filter, find, Option, Some, None, nat_lt, refl, sym, ap, ◌∙◌, arith, eqb-true}
 use Rattle.std.specs.List.{AllByRecursion}
 use Rattle.std.specs.List.Sorted.{IsStrictlySortedBy}
 use Rattle.std.specs.Ordering.{nat_cmp}
@@ -10,14 +9,12 @@ use Rattle.std.proofs.lemmas.Bool.Decides.{nat_tests}
 use Rattle.std.proofs.lemmas.Map.Keys.{sorted_head, sorted_tail}
 use Rattle.lists.proofs.Elements.{all-weaker}
 use Rattle.runs.specs.Runs.{run_number}
-use Rattle.run_model.specs.Making.{discover, discover_all, discover_one, has_discovery, new_item, queue_new, step_target}
+use Rattle.run_model.specs.Making.{discover_all, discover_one, has_discovery, new_item, queue_new, step_target}
 use Rattle.run_model.specs.State.{State, Run, live_run}
-use Rattle.machine.specs.Discovered.{discover_at, noted}
+use Rattle.machine.specs.Discovered.{discover_at}
 use Rattle.machine.specs.Held.{is_left}
-use Rattle.machine.specs.Numbers.{IsTaken, has_number}
 use Rattle.machine.specs.Words.{queue_at, wants_at}
 use Rattle.machine.proofs.HeldMaking.{left-before}
-use Rattle.machine.proofs.Joined.{at-number}
 
 abbrev left_in : State → Run → Bool
 left_in s r = is_left s.items s.issues r

@@ -1,5 +1,5 @@
 -- The parts after events and functions that were touched are looked at: those that nothing names go.
-use Rattle.std.proofs.Common.{◌≡◌, ℕ, ◌+◌, ◌<◌, ◌≤◌, ◌==◌, ◌^◌, Bool, true, false, not, cond, ◌&&◌, ◌||◌, List, [], ◌∷◌, ◌++◌, filter, find, is_some, slice_get, Option, Some, None, IfSome, refl, sym, ap, ap₂, ◌∙◌, arith, subst, eqb-true}
+use Rattle.std.proofs.Common.{◌≡◌, ℕ, ◌+◌, ◌<◌, ◌≤◌, ◌==◌, ◌^◌, Bool, true, false, not, cond, ◌&&◌, ◌||◌, List, [], ◌∷◌, filter, find, is_some, slice_get, Option, Some, None, IfSome, refl, sym, ap, ap₂, ◌∙◌, arith, subst, eqb-true}
 use Rattle.std.specs.List.{AllByRecursion, list_any}
 use Rattle.event_keys.specs.Buckets.{bucket_of}
 use Rattle.event_texts.specs.Texts.{IsCounted, IsGone, Texts, bytes_of_texts, counted_bytes, counts, event_number, text_at}
@@ -10,10 +10,9 @@ use Rattle.kinds.specs.declared.store.Bucket.{Bucket}
 use Rattle.kinds.specs.declared.window.Window.{Window}
 use Rattle.lists.proofs.Elements.{all-both, all-filter, all-weaker, filter-passes}
 use Rattle.lists.specs.Entries.{has}
-use Rattle.runs.specs.Names.{has_runs, is_named, is_used}
+use Rattle.runs.specs.Names.{is_named}
 use Rattle.runs.specs.Runs.{RunLists, bytes_of_results, is_in}
-use Rattle.run_model.specs.Fit.{AreConditionsFit, IsBucketOf, IsFit, IsRuleFit, IsWaitFit}
-use Rattle.run_model.specs.Laws.{IsIn}
+use Rattle.run_model.specs.Fit.{IsBucketOf, IsFit, IsRuleFit, IsWaitFit}
 use Rattle.run_model.specs.State as model
 use Rattle.run_model.specs.State.{State, Run, EventText, kept, tidied, without_closed, without_unnamed}
 use Rattle.run_model.proofs.FitCounts.{fit-functions, fit-texts}

@@ -1,5 +1,5 @@
 -- The parts after a run is made: its rules, and the run with its first item.
-use Rattle.std.proofs.Common.{◌≡◌, ℕ, ℤ, pos, negsuc, ◌+◌, ◌<◌, ◌≤◌, ◌==◌, Bool, true, false, cond, ◌&&◌, ◌||◌, List, [], ◌∷◌, ◌++◌, map, find, Option, Some, None, unsigned_abs, option_map, to_z, of_z, w64, refl, sym, ap, ◌∙◌, arith, subst, eqb-true}
+use Rattle.std.proofs.Common.{◌≡◌, ℕ, ℤ, pos, negsuc, ◌+◌, ◌<◌, ◌≤◌, ◌==◌, Bool, true, false, ◌||◌, List, [], ◌∷◌, ◌++◌, map, find, Option, Some, None, unsigned_abs, option_map, to_z, of_z, w64, refl, sym, ap, ◌∙◌, arith, subst, eqb-true}
 use Rattle.std.specs.List.{AllByRecursion, list_any}
 use Rattle.std.specs.List.Sorted.{IsStrictlySortedBy}
 use Rattle.std.specs.Ordering.{nat_cmp}
@@ -31,7 +31,7 @@ use Rattle.run_model.proofs.FitRuns.{bucket-found, first-given, fit-new}
 use Rattle.run_model.proofs.FitShifts.{shift-within}
 use Rattle.run_model.proofs.FitUses.{none-next}
 use Rattle.run_model.proofs.FitWindows.{fit-started}
-use Rattle.run_model.proofs.Members.{all-map, in-all, in-found, in-last}
+use Rattle.run_model.proofs.Members.{in-all, in-found, in-last}
 use Rattle.machine.specs.Held.{AreEndsRight, AreEventsRight, AreVersionsRight, AreWantsNoted, Becomes, IsEventRight, IsHeld, is_event_used, is_left, is_version_in_use}
 use Rattle.machine.specs.Making.{AreDraftsFit, IsNewFit, add_draft, add_drafts, begin_run, draft_of, planned, rule_of}
 use Rattle.machine.specs.Numbers.{AreJoined, IsJoined, IsTouched, has_number}

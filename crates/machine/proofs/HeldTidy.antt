@@ -1,8 +1,6 @@
 -- The parts after runs that were touched are looked at: those whose calls have ended go.
-use Rattle.std.proofs.Common.{◌≡◌, ℕ, ◌-◌, ◌<◌, ◌≤◌, ◌==◌, Bool, true, false, not, cond, ◌||◌, List, [], ◌∷◌, ◌++◌, filter, find, take, drop, length, slice_get, Option, Some, None, IfSome, refl, sym, ap, ap₂, ◌∙◌, arith, subst, eqb-true}
-use Rattle.std.specs.BTreeMap.{is_at}
+use Rattle.std.proofs.Common.{◌≡◌, ℕ, ◌-◌, ◌<◌, ◌≤◌, ◌==◌, Bool, true, false, not, cond, ◌||◌, List, [], ◌++◌, filter, find, take, drop, length, slice_get, Option, Some, None, IfSome, refl, sym, ap, ap₂, ◌∙◌, arith, subst, eqb-true}
 use Rattle.std.specs.List.{AllByRecursion, list_any}
-use Rattle.std.specs.Ordering.{nat_cmp}
 use Rattle.std.proofs.lemmas.Bool.{cond-false}
 use Rattle.std.proofs.lemmas.List.{take-append-drop}
 use Rattle.functions.specs.declared.entry.FunctionEntry.{FunctionEntry}
@@ -17,7 +15,7 @@ use Rattle.run_model.specs.State.{State, Run, Issue, EventText, EndedRun, has_op
 use Rattle.run_model.proofs.Apart.{all-none, none-all}
 use Rattle.run_model.proofs.FitCounts.{fit-closing, fit-rest}
 use Rattle.run_model.proofs.Tidied.{filter-all}
-use Rattle.machine.specs.Held.{AreEndsRight, AreEventsRight, AreVersionsRight, Becomes, IsClosing, IsEventRight, IsHeld, is_event_named, is_event_used, is_version_in_use}
+use Rattle.machine.specs.Held.{AreEndsRight, AreEventsRight, AreVersionsRight, Becomes, IsClosing, IsEventRight, IsHeld, is_event_used, is_version_in_use}
 use Rattle.machine.specs.Numbers.{IsRest, IsTaken, IsTouched, Keeps, has_number}
 use Rattle.machine.specs.Tidy.{IsLooked, IsTidied, forget_run, forget_unless, look_at_run, touched_runs}
 use Rattle.machine.specs.View.{state_of}
@@ -26,7 +24,6 @@ use Rattle.machine.specs.declared.parts.Parts.{Parts}
 use Rattle.machine.proofs.HeldEvents.{untouched}
 use Rattle.machine.proofs.HeldRecording.{as-lists}
 use Rattle.machine.proofs.HeldRuns.{none-in, not-same}
-use Rattle.machine.proofs.HeldWords.{becomes-same}
 use Rattle.machine.proofs.Joined.{at-number}
 use Rattle.machine.proofs.Lists.{all-apart, all-last_or, all-of, any-left, filter-over, front-left, last-over}
 

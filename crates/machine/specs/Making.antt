@@ -1,5 +1,5 @@
 -- What a function and its first event decide of a run.
-use Rattle.std.specs.Prelude.{ℕ, ℤ, ◌≡◌, ◌+◌, ◌∷◌, ◌++◌, List, [], map, Option}
+use Rattle.std.specs.Prelude.{ℕ, ◌+◌, ◌∷◌, ◌++◌, List, [], map}
 use Rattle.std.specs.List.{AllByRecursion}
 use Rattle.std.specs.Option.{option_map}
 use Rattle.kinds.specs.declared.function.CancelEntry.{CancelEntry}

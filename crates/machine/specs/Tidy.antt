@@ -1,6 +1,5 @@
 -- What goes at the end of a step, one number of what was touched after the other.
-use Rattle.std.specs.Prelude.{ℕ, ◌≡◌, ◌<◌, ◌==◌, Bool, true, false, not, ◌||◌, List, [], filter, length, IfSome}
-use Rattle.std.specs.List.{list_any}
+use Rattle.std.specs.Prelude.{ℕ, ◌≡◌, ◌<◌, ◌==◌, Bool, true, false, not, List, [], filter, length, IfSome}
 use Rattle.functions.specs.declared.entry.FunctionEntry.{FunctionEntry}
 use Rattle.lists.specs.Entries.{has, without}
 use Rattle.event_texts.specs.Texts.{event_number, text_at}

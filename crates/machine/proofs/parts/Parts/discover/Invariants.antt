@@ -1,4 +1,4 @@
-use Rattle.std.proofs.Common.{◌≡◌, ℕ, length}
+use Rattle.std.proofs.Common.{◌≡◌, length}
 use Rattle.machine.specs.Discovered.{after_noted}
 use Rattle.machine.specs.Held.{IsHeld}
 use Rattle.machine.proofs.parts.Parts.discover.Given as goal

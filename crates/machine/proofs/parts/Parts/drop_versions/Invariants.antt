@@ -1,4 +1,4 @@
-use Rattle.std.proofs.Common.{◌≡◌, ℕ, length}
+use Rattle.std.proofs.Common.{◌≡◌, length}
 use Rattle.run_model.specs.State.{without_unnamed}
 use Rattle.machine.specs.Tidy.{IsTidied}
 use Rattle.machine.proofs.parts.Parts.drop_versions.Given as goal
