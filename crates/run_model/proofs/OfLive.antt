@@ -42,7 +42,7 @@ use Rattle.run_model.proofs.SettlingLists.{any-found, found-passes, or-left, or-
 -- ## Runs that have not ended
 
 -- the end of another run
-of-left : (number run : ℕ) (live : List Run) → (number == run) ≡ false → IsOf live run
+pub of-left : (number run : ℕ) (live : List Run) → (number == run) ≡ false → IsOf live run
     → IsOf (filter (λ (r : Run). not (number == r.number)) live) run
 of-left number run [] other h = h
 of-left number run (r ∷ live) other h =
@@ -73,15 +73,15 @@ of-live run r s e =
 
 -- ## Lists
 
-record AreOf (live : List Run) (items : List Item) (sleeps : List Sleep) (waits : List Waiting)
+pub record AreOf (live : List Run) (items : List Item) (sleeps : List Sleep) (waits : List Waiting)
     (invocations : List Invocation) (rules : List Rule) : Type 0 where
-  items_of : AllByRecursion (λ (i : Item). IsOf live i.run) items
-  sleeps_of : AllByRecursion (λ (e : Sleep). IsOf live e.run) sleeps
-  waits_of : AllByRecursion (λ (e : Waiting). IsOf live e.wait.run) waits
-  invocations_of : AllByRecursion (λ (e : Invocation). IsOf live e.run) invocations
-  rules_of : AllByRecursion (λ (e : Rule). IsOf live e.run) rules
+  pub items_of : AllByRecursion (λ (i : Item). IsOf live i.run) items
+  pub sleeps_of : AllByRecursion (λ (e : Sleep). IsOf live e.run) sleeps
+  pub waits_of : AllByRecursion (λ (e : Waiting). IsOf live e.wait.run) waits
+  pub invocations_of : AllByRecursion (λ (e : Invocation). IsOf live e.run) invocations
+  pub rules_of : AllByRecursion (λ (e : Rule). IsOf live e.run) rules
 
-abbrev AllOf : State → Type 0
+abbrev pub AllOf : State → Type 0
 AllOf s = AreOf s.live s.items s.sleeps s.waits s.invocations s.rules
 
 -- each run that had not ended still hasn't
@@ -271,7 +271,7 @@ of-accepted : (event : EventIn) (id : Option (List ℕ)) (s : State) → AllOf s
 of-accepted event None s h = h
 of-accepted event (Some id) s h = h
 
-keeps-of : Keeps AllOf
+pub keeps-of : Keeps AllOf
 keeps-of = freely AllOf (record {
   accepts = λ event id s new h. of-accepted event id s h;
   starts = λ f event parent s there given h. of-started f (event ∷ []) parent s h;
@@ -310,7 +310,7 @@ of-issued i s h =
     (of-items left s (all-filter (λ (j : Item). IsOf s.live j.run) (λ j. not (has_number i.number j)) s.items
     h.items_of) h)
 
-of-steps : (bound : ℕ) → KeepsSteps bound (λ input. Unit {0}) (λ is s. AllOf s)
+pub of-steps : (bound : ℕ) → KeepsSteps bound (λ input. Unit {0}) (λ is s. AllOf s)
 of-steps bound = record {
   calls = dropping (λ is s. AllOf s) (record {
     runs = λ is. keeps-of;

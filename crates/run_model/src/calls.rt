@@ -4,10 +4,10 @@ ghost use Rattle.kinds.specs.declared.input.Input.{Input};
 ghost use Rattle.kinds.specs.declared.limits.Limits.{Limits};
 ghost use Rattle.run_model.specs.Machine.{fold, step};
 ghost use Rattle.run_model.specs.Settled.{AreItemsNew, CallsNew};
-ghost use Rattle.run_model.specs.Sound.{KeepLimits, RecordsOnce, all_runs};
-ghost use Rattle.run_model.specs.State.{State, Run, issue_entries};
+ghost use Rattle.run_model.specs.Sound.{KeepLimits, RecordsOnce, all_runs, numbers_of};
+ghost use Rattle.run_model.specs.State.{State, Issue, Run, is_in, issue_entries};
 ghost use Rattle.std.specs.List.{AllByRecursion};
-ghost use Rattle.std.specs.Prelude.{List, [], ◌≤◌};
+ghost use Rattle.std.specs.Prelude.{List, [], ◌≡◌, ◌≤◌, true};
 
 /// In each state that is reached, for each open call and each of its cells, no more calls that were made up to it are
 /// open in the cell than the call's limit there.
@@ -37,4 +37,11 @@ pub fn steps_are_recorded_once()
 pub fn runs_have_room_for_names()
     ensures { (limits : Limits) (inputs : List Input) →
         AllByRecursion (λ (r : Run). names r.steps ≤ most_names) (all_runs (fold limits inputs)) }
+{}
+
+/// Each open call is of a run that is there: it has not ended, or it has and is kept until its calls end.
+pub fn calls_are_of_runs()
+    ensures { (limits : Limits) (inputs : List Input) →
+        AllByRecursion (λ (i : Issue). is_in i.item.run (numbers_of (all_runs (fold limits inputs))) ≡ true)
+        (fold limits inputs).issues }
 {}

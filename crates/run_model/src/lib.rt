@@ -12,8 +12,8 @@ mod settling;
 mod waiting;
 
 pub use calls::{
-    items_stay_new, limits_are_kept, recorded_steps_are_not_called, runs_have_room_for_names,
-    steps_are_recorded_once,
+    calls_are_of_runs, items_stay_new, limits_are_kept, recorded_steps_are_not_called,
+    runs_have_room_for_names, steps_are_recorded_once,
 };
 pub use fit::{
     empty_is_fit, histories_are_fit, runs_are_fixed, steps_stay_fit, windows_have_rules,
