@@ -30,8 +30,10 @@ pub mod NextHeld
 pub mod Over
 pub mod Pended
 pub mod Raised
+pub mod Reopened
 pub mod Replied
 pub mod Staying
+pub mod Stepped
 pub mod Told
 pub mod VersionLemmas
 pub mod VersionSearch

@@ -68,6 +68,7 @@ impl Parts {
     }
 
     // What an input does.
+    #[tactic(auto, unfolding(run_model::specs::Machine::act))]
     fn act<L: Ledger>(
         &mut self,
         input: Input,
@@ -184,10 +185,10 @@ impl Parts {
         ensures { OnOk result (Becomes
             (requeue_found item (live_run item.run (state_of self.old)) (state_of self.old)) self.old self.new) }
     {
-        let Some(run) = self.runs.live(item.run) else {
+        let Some(live) = self.runs.live(item.run) else {
             return Ok(());
         };
-        if has_recorded(run, item.target.as_slice()) {
+        if has_recorded(live, item.target.as_slice()) {
             return self.want(item.run);
         }
         self.queue_now(item)
@@ -200,9 +201,15 @@ impl Parts {
         ensures { OnOk result (Becomes
             (queue (due_now item (state_of self.old)) (state_of self.old)) self.old self.new) }
     {
-        let due = self.moment;
-        self.admission.add(Item { due, ..item })
+        self.admission.add(due_at(item, self.moment))
     }
+}
+
+// The same item, due at a moment.
+fn due_at(item: Item, due: u64) -> Item
+    ensures { result ≡ record item { due = due } }
+{
+    Item { due, ..item }
 }
 
 // The answer to a registration: whether the list of current functions is another than before.
