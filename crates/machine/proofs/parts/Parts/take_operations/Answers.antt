@@ -29,3 +29,14 @@ returns-then-stops-clause-now g c =
     c.args.self.now c.loop-op.self c.take_operation.new.self c.loop-op.again c.in_ok-taken.taken
     c.in-Some.ensures.steps.0 c.loop-op.invariant c.in_ok-taken.ensures.taken c.in_ok-taken.ensures.now
     (stops-is c.in_ok-taken.taken (sym c.stops.ensures ∙ c.if-stops.true))).1
+
+pub returns-clause-taken : goal.returns-clause-taken
+returns-clause-taken g c =
+    c.taken_again.ensures
+    ∙ (taking-done c.args.item.now c.args.no_retry c.args.ops _ c.args.self.now c.loop-op.self c.loop-op.again
+    c.in-None.ensures.steps.0 c.loop-op.invariant).0
+
+pub returns-clause-now : goal.returns-clause-now
+returns-clause-now g c =
+    (taking-done c.args.item.now c.args.no_retry c.args.ops _ c.args.self.now c.loop-op.self c.loop-op.again
+    c.in-None.ensures.steps.0 c.loop-op.invariant).1
