@@ -1,6 +1,5 @@
 mod BehindLemmas
 mod BesideLemmas
-mod FilledLemmas
 mod NameLemmas
 mod RuleLemmas
 mod StepLemmas

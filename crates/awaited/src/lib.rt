@@ -21,6 +21,3 @@ pub use sleeps::Sleeps;
 pub use timed::{Timed, TimedList};
 pub use waits::Waits;
 pub use windows::WindowSet;
-
-#[cfg(test)]
-mod tests;

@@ -1,6 +1,6 @@
 use Rattle.awaited.specs.Entries.{sleep_number}
-use Rattle.awaited.proofs.FilledLemmas.{filled_below, filled_more}
-use Rattle.awaited.proofs.tests.sleeps.Goals as goal
+use Rattle.awaited_tests.proofs.FilledLemmas.{filled_below, filled_more}
+use Rattle.awaited_tests.proofs.tests.sleeps.Goals as goal
 
 pub add-requires : goal.add-requires
 add-requires c = record { below = filled_below sleep_number _ _ _ c.loop-number.invariant c.sleep.ensures }

@@ -4,7 +4,7 @@ ghost use Rattle.kinds.specs.Stores.{rule_number, wait_number};
 ghost use Rattle.kinds.specs.Windows.{IsRule};
 ghost use Rattle.awaited.specs.Entries.{sleep_number, invocation_number};
 
-use crate::{Invocation, Invocations, Placed, Rules, Sleep, Sleeps, Waits, WindowSet};
+use awaited::{Invocation, Invocations, Placed, Rules, Sleep, Sleeps, Waits, WindowSet};
 use expr::Expr;
 use kinds::{
     Batch, Due, Event, Matcher, Parent, PathMatcher, Rule, StepHash, Steps, Wait, WindowRule,

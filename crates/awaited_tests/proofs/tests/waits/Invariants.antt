@@ -1,7 +1,7 @@
 use Rattle.std.proofs.Common.{◌<◌}
 use Rattle.std.specs.List.{AllByRecursion}
 use Rattle.awaited.specs.Entries.{waiting_number}
-use Rattle.awaited.proofs.tests.waits.Given as goal
+use Rattle.awaited_tests.proofs.tests.waits.Given as goal
 
 abbrev pub invariant-loop-number : goal.invariant-loop-number
 invariant-loop-number l = AllByRecursion (λ e. waiting_number e < l.number) l.waits
