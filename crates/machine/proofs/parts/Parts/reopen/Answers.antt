@@ -19,8 +19,8 @@ loop-item-preserved c =
     (sym c.in-Some.is ∙ c.in_ok-item.ensures.item) c.in_ok-item.ensures.now c.requeue.new.self
     c.in_ok-requeue.ensures
 
-pub loop-item-decreases : goal.loop-item-decreases
-loop-item-decreases c =
+pub loop-item-smaller : goal.loop-item-smaller
+loop-item-smaller c =
     fewer-issues c.args.self.now c.loop-item.self c.loop-item.invariant c.take_call.new.self c.in-Some.item
     (sym c.in-Some.is ∙ c.in_ok-item.ensures.item) c.in_ok-item.ensures.now c.requeue.new.self
     c.in_ok-requeue.ensures
