@@ -648,3 +648,8 @@ taking-done i no_retry all rest old l again none h =
       ap taken_of whole,
       record { state = ap (λ (t : Taking). t.state) whole; held = h.held; clock = h.clock },
     )
+
+-- where the call's answer is the whole's
+pub if-stops : {E : Type 0} (r : Result Taken E) (t : Taken) → Stops ≡ t → IfOk r (λ x. x ≡ Stops) → IfOk r (λ x. x ≡ t)
+if-stops (Ok taken) t e h = h ∙ e
+if-stops (Err fault) t e h = tt
