@@ -57,7 +57,7 @@ gone-failed r error s live h =
     ((fit-found r s live h).number, found-ended r.number s.live) in
     (ended-fail_run (Holds (IsGone r.number)) (keeps-runs (IsGone r.number) (gone-stays r.number)) r error s
     (record {
-      ends = gone;
+      ends = λ untold. gone;
       tells = λ p q result parent there waits. (gone-stays r.number).changes s.runs p.run (record_in p.hash result)
           (end_run r Failed s).live (λ x. (refl, (_, refl))) gone;
     })).1

@@ -26,7 +26,7 @@ use Rattle.run_model.proofs.FitWindows.{pairs-filter}
 use Rattle.machine.specs.Held.{AreEndsRight, AreWantsNoted, Becomes, IsClosing, IsHeld, is_left}
 use Rattle.machine.specs.Numbers.{IsJoined, has_number}
 use Rattle.machine.specs.Operations.{taken_of}
-use Rattle.machine.specs.Replies.{ops_at, outcome_at}
+use Rattle.machine.specs.Replies.{lacks, ops_at, outcome_at}
 use Rattle.machine.specs.View.{state_of}
 use Rattle.machine.specs.Words.{item_in}
 use Rattle.machine.specs.declared.loose.Loose.{Loose}
@@ -280,3 +280,8 @@ module _ (m l new : Parts) (i : Item) (ops : List Op) (no_retry : Bool) (a : Aft
       subst (λ s. Becomes s m new) (sym (ops-on i ops no_retry a (state_of m) (sym told) is))
       (becomes-then (λ s. after_found (live_run i.run s) i a s)
       (take_operations i no_retry ops (begun (state_of m))).state m l new became then)
+
+-- what was asked of a target and operations, of the item's own
+pub lacks-at : (i : Item) (ops os : List Op) (target : List ℕ) (b : Bool) → b ≡ lacks target os → target ≡ i.target
+    → os ≡ ops → b ≡ lacks_target i ops
+lacks-at i ops os target b e t o = e ∙ ap (λ x. lacks x os) t ∙ ap (λ x. lacks i.target x) o
