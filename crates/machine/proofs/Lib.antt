@@ -1,3 +1,41 @@
-mod EventsLemmas
-mod Fresh
-mod StepLemmas
+pub mod Changed
+pub mod Discovered
+pub mod Empty
+pub mod EndWords
+pub mod Fired
+pub mod Found
+pub mod Gone
+pub mod HeldEnds
+pub mod HeldEvents
+pub mod HeldFunctions
+pub mod HeldInvocations
+pub mod HeldMaking
+pub mod HeldNamed
+pub mod HeldOffers
+pub mod HeldOperations
+pub mod HeldRecording
+pub mod HeldReplies
+pub mod HeldRequests
+pub mod HeldRuns
+pub mod HeldSettle
+pub mod HeldTidy
+pub mod HeldTime
+pub mod HeldWords
+pub mod Invoked
+pub mod Joined
+pub mod Lists
+pub mod Matched
+pub mod Next
+pub mod NextHeld
+pub mod Over
+pub mod Pended
+pub mod Raised
+pub mod Reopened
+pub mod Replied
+pub mod Staying
+pub mod Stepped
+pub mod Told
+pub mod VersionLemmas
+pub mod VersionSearch
+pub mod ViewLemmas
+pub mod WindowsAfter

@@ -1,1 +1,15 @@
+pub mod Advance
+pub mod Counts
+pub mod Discovered
+pub mod Ends
+pub mod Held
+pub mod Making
+pub mod Numbers
+pub mod Offers
+pub mod Operations
+pub mod Replies
+pub mod Steps
+pub mod Tidy
+pub mod Versions
 pub mod View
+pub mod Words

@@ -5,6 +5,8 @@ mod LogLemmas
 mod LogRun
 mod LoggedLemmas
 mod PiecesLemmas
+mod PrintLemmas
+mod RangeLemmas
 mod ReaderLemmas
 mod ReplayLemmas
 mod RunLemmas

@@ -5,15 +5,14 @@ use Rattle.std.proofs.lemmas.List.{length-take}
 use Rattle.kinds.specs.declared.input.Input.{Input}
 use Rattle.replay_core.specs.Line.{read_line}
 use Rattle.replay_core.specs.Pieces.{line_feed, text_of_line, text_up_to}
-use Rattle.replay_core.specs.declared.line.Grammar.{Grammar}
 use Rattle.replay_core.specs.declared.line.Line.TheVariants as line
 use Rattle.requests.specs.declared.requested.Requested.TheVariants as requested
 
 -- an input's line isn't empty
-pub input-some : (grammar : Grammar) (text : List ℕ) (input : Input) → read_line grammar text ≡ Some (line.Asks (requested.Input input)) → 0 < length text
+pub input-some : (text : List ℕ) (input : Input) → read_line text ≡ Some (line.Asks (requested.Input input)) → 0 < length text
 unfolding read_line
-input-some grammar [] input is = cc
-input-some grammar (byte ∷ bytes) input is = omega arith
+input-some [] input is = cc
+input-some (byte ∷ bytes) input is = omega arith
 
 up-to-within : (text : List ℕ) (place : Option ℕ) → length (text_up_to text place) ≤ length text
 up-to-within text None = omega arith

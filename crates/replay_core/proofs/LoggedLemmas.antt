@@ -1,17 +1,16 @@
 -- One line over a journal, and the last line of a script.
 use Rattle.std.proofs.Common.{◌≡◌, ℕ, ◌<◌, ◌≤◌, ◌⊎◌, inl, inr, Bool, true, false, List, [], ◌∷◌, ◌++◌, length, nat_lt, Result, Ok, Err, refl, ap, ◌∙◌, sym, subst, append_assoc, append-nil, arith}
 use Rattle.rig.specs.MemoryRig.{MemoryRig}
-use Rattle.machine_model.specs.State.{State}
+use Rattle.run_model.specs.State.{State}
 use Rattle.journal_core.specs.Records.{StandsFor}
 use Rattle.replay_core.specs.Accepted.{accepted_line, accepted_lines, is_accepted, line_where}
 use Rattle.replay_core.specs.Line.{read_line}
 use Rattle.replay_core.specs.Log.{FinishesLog, IsLogging, IsOnDisk, Logs, StandsForEither, StopsLog, payloads_in}
 use Rattle.replay_core.specs.Pieces.{last_line, text_of_line}
-use Rattle.replay_core.specs.Replay.{Outcome, Goes, Stops, Finished, Progress, end_line, finish, line_read, on_line, on_lines}
+use Rattle.replay_core.specs.Replay.{Outcome, Goes, Stops, Finished, Progress, end_line, finish, line_read, on_line, on_lines, passes_limits}
 use Rattle.replay_core.specs.Run.{Finishes, RunsAs, Says, SaysPrefix, transcript_of}
 use Rattle.replay_core.specs.declared.end.LineFault.{LineFault}
 use Rattle.replay_core.specs.declared.end.LineFault.TheVariants as fault
-use Rattle.replay_core.specs.declared.line.Grammar.{Grammar}
 use Rattle.replay_core.specs.declared.logged.Logged.{Logged}
 use Rattle.replay_core.specs.declared.progress.Ran.{Ran}
 use Rattle.replay_core.proofs.AcceptedLemmas.{accepted-one}
@@ -21,17 +20,15 @@ use Rattle.replay_core.proofs.ReplayLemmas.{on_lines-one}
 -- ## One line
 
 -- an accepted line has a text
-pub accepted-some : (state : State) (grammar : Grammar) (text : List ℕ) → true ≡ is_accepted state (read_line grammar text) → 0 < length text
+pub accepted-some : (state : State) (text : List ℕ) → true ≡ is_accepted state (read_line text) → 0 < length text
 unfolding read_line
-accepted-some state grammar [] is = cc
-accepted-some state grammar (byte ∷ bytes) is = omega arith
+accepted-some state [] is = cc
+accepted-some state (byte ∷ bytes) is = omega arith
 
--- what a line within the limit adds
-pub accepted-is : (progress : Progress) (line : List ℕ) (accepted : Bool) → length line ≤ progress.room → accepted ≡ is_accepted progress.state (line_read progress line) → line_where accepted line ≡ accepted_line progress line
+-- what a line within the limits adds
+pub accepted-is : (progress : Progress) (line : List ℕ) (accepted : Bool) → passes_limits progress.room line ≡ false → accepted ≡ is_accepted progress.state (line_read line) → line_where accepted line ≡ accepted_line progress line
 unfolding accepted_line
-accepted-is progress line accepted fits is =
-    let passes : nat_lt progress.room (length line) ≡ false = grind (arith, fits) in
-    rw (passes, is) refl
+accepted-is progress line accepted within is = rw (within, is) refl
 
 pub runs-says : (outcome : Outcome) (said : List ℕ) (e : LineFault) → RunsAs outcome (Err e) → Says outcome said said (Err e)
 runs-says outcome said (fault.Outside line) h = (h, refl)
@@ -39,7 +36,7 @@ runs-says outcome said fault.Spent h = (h, refl)
 runs-says outcome said fault.Memory h = refl
 
 -- a line at which the run broke off before the journal was touched
-pub runs-stops : (progress : Progress) (line : List ℕ) (size : ℕ) (rig : MemoryRig) (e : LineFault) → length line ≤ progress.room → IsLogging size rig → (e ≡ fault.Memory) ⊎ (is_accepted progress.state (line_read progress line) ≡ false) → StopsLog (accepted_line progress line) rig rig e
+pub runs-stops : (progress : Progress) (line : List ℕ) (size : ℕ) (rig : MemoryRig) (e : LineFault) → passes_limits progress.room line ≡ false → IsLogging size rig → (e ≡ fault.Memory) ⊎ (is_accepted progress.state (line_read line) ≡ false) → StopsLog (accepted_line progress line) rig rig e
 runs-stops progress line size rig (fault.Outside n) fits log (inl is) = cc
 runs-stops progress line size rig (fault.Outside n) fits log (inr none) = (sym (accepted-is progress line false fits (sym none)), refl)
 runs-stops progress line size rig fault.Spent fits log (inl is) = cc

@@ -1,10 +1,14 @@
 -- What lines say, part after part.
-use Rattle.std.proofs.Common.{◌≡◌, ℕ, ◌+◌, ◌<◌, true, List, [], ◌∷◌, ◌++◌, length, length-append, nat_lt, MatchBool, Bool, false, refl, ap, ◌∙◌, sym, append_assoc, append-nil, arith}
+use Rattle.std.proofs.Common.{◌≡◌, ℕ, zero, suc, ◌+◌, ◌<◌, ◌≤◌, ◌==◌, true, List, [], ◌∷◌, ◌++◌, length, length-append, nat_lt, MatchBool, Bool, false, refl, ap, ◌∙◌, sym, append_assoc, append-nil, arith, get_or, Option, Some, None}
+use Rattle.std.specs.List.{position}
+use Rattle.std.proofs.lemmas.List.{length-take}
+use Rattle.std.proofs.lemmas.List.Quantifiers.{position-Some}
 use mathlib.Core.Path.{fun_ext}
 use Rattle.replay_core.specs.Accepted.{accepted_line, accepted_lines}
-use Rattle.replay_core.specs.Pieces.{IsEnded, IsUnended, all_lines, lines_of}
-use Rattle.replay_core.specs.Replay.{Ending, Finished, Outcome, Goes, Stops, Outside, Progress, Transcript, after_text, and_then, end_line, finish, on_line, on_lines, text_of}
+use Rattle.replay_core.specs.Pieces.{IsEnded, IsUnended, all_lines, line_feed, lines_of, text_of_line, text_up_to}
+use Rattle.replay_core.specs.Replay.{Ending, Finished, Outcome, Goes, Stops, Outside, Progress, Transcript, after_text, and_then, end_line, finish, line_limit, on_line, on_lines, passes_limits, text_of}
 use Rattle.replay_core.specs.Run.{transcript_of}
+use Rattle.replay_core.proofs.LineLemmas.{text-within}
 use Rattle.replay_core.proofs.PiecesLemmas.{IsOpen, ended-lines, first-line, unended-open}
 
 pub after-nil : (outcome : Outcome) → after_text [] outcome ≡ outcome
@@ -66,30 +70,66 @@ pub adds-none : (progress : Progress) (line : List ℕ) (lines : List (List ℕ)
 unfolding accepted_lines
 adds-none progress line lines ending is none = rw (is, none) refl
 
--- a line that passes the limit of a script
-over-line : (progress : Progress) (line : List ℕ) → progress.room < length line → (on_line progress line ≡ Stops (Outside (progress.lines + 1)) []) × (accepted_line progress line ≡ [])
+-- a line that passes a limit
+over-line : (progress : Progress) (line : List ℕ) → passes_limits progress.room line ≡ true → (on_line progress line ≡ Stops (Outside (progress.lines + 1)) []) × (accepted_line progress line ≡ [])
 unfolding on_line accepted_line
-over-line progress line over =
-    let passes : nat_lt progress.room (length line) ≡ true = grind (arith, over) in
-    (rw passes refl, rw passes refl)
+over-line progress line over = (rw over refl, rw over refl)
 
 -- a run of these lines stops at the limit, and adds nothing
 abbrev pub StopsOver : Progress → List (List ℕ) → Type 0
 StopsOver progress lines = (on_lines progress lines ≡ Stops (Outside (progress.lines + 1)) []) × (accepted_lines progress lines ≡ [])
 
-over-first : (progress : Progress) (line : List ℕ) (lines : List (List ℕ)) → progress.room < length line → StopsOver progress (line ∷ lines)
+over-first : (progress : Progress) (line : List ℕ) (lines : List (List ℕ)) → passes_limits progress.room line ≡ true → StopsOver progress (line ∷ lines)
 over-first progress line lines over =
     let stops = over-line progress line over in
     (stops-line progress line lines _ stops.0, adds-none progress line lines _ stops.0 stops.1)
 
-over-open : (progress : Progress) (line more : List ℕ) → IsOpen line → progress.room < length line → StopsOver progress (all_lines (lines_of (line ++ more)))
-over-open progress [] more is over = absurd (omega (arith, over))
+-- the byte that ends a line stands behind one that is open
+not-before : (i : ℕ) (line more : List ℕ) → IsOpen line → (get_or (line ++ more) i 0 == line_feed) ≡ true → length line ≤ i
+not-before i [] more is ends = omega arith
+not-before zero (byte ∷ bytes) more is ends = cc
+not-before (suc i) (byte ∷ bytes) more is ends = let behind = not-before i bytes more is.1 ends in omega (arith, behind)
+
+-- what follows an open line makes its text no shorter
+open-text : (line more : List ℕ) → IsOpen line → length line ≤ length (text_of_line (line ++ more))
+open-text line more is = by-place (position (λ byte. byte == line_feed) (line ++ more)) refl
+  where
+    by-place : (place : Option ℕ) → position (λ byte. byte == line_feed) (line ++ more) ≡ place → length line ≤ length (text_up_to (line ++ more) place)
+    by-place None e = omega (arith, length-append line more)
+    by-place (Some i) e =
+        let found = position-Some (λ byte. byte == line_feed) (line ++ more) i 0 e in
+        let behind = not-before i line more is found.1 in
+        let within = found.0 in
+        simp length-take (omega (arith, behind, within))
+
+empty-within : (room : ℕ) → passes_limits room [] ≡ true → ⊥
+empty-within room over = grind (arith, over)
+
+either-passes : (room : ℕ) (line whole : List ℕ) → length line ≤ length whole → length line ≤ length (text_of_line whole) → length (text_of_line line) ≤ length line → passes_limits room line ≡ true → passes_limits room whole ≡ true
+either-passes room line whole longer texts within over = grind (arith, longer, texts, within, over)
+
+over-open : (progress : Progress) (line more : List ℕ) → IsOpen line → passes_limits progress.room line ≡ true → StopsOver progress (all_lines (lines_of (line ++ more)))
+over-open progress [] more is over = absurd (empty-within progress.room over)
 over-open progress (byte ∷ bytes) more is over =
     let first = first-line byte bytes more is in
     let longer : length (byte ∷ (bytes ++ first.0)) ≡ length (byte ∷ bytes) + length first.0 = length-append (byte ∷ bytes) first.0 in
-    rw first.2 (over-first progress (byte ∷ (bytes ++ first.0)) first.1 (omega (arith, over, longer)))
+    rw first.2 (over-first progress (byte ∷ (bytes ++ first.0)) first.1
+    (either-passes progress.room (byte ∷ bytes) (byte ∷ (bytes ++ first.0)) (omega (arith, longer))
+    (open-text (byte ∷ bytes) first.0 is) (text-within (byte ∷ bytes)) over))
 
 -- whatever follows what was taken of the line
-pub over-limit : (progress : Progress) (ended : Bool) (line more : List ℕ) (P Q : Type 0) → MatchBool ended (IsEnded line × P) (IsUnended line × Q) → progress.room < length line → StopsOver progress (all_lines (lines_of (line ++ more)))
+pub over-limit : (progress : Progress) (ended : Bool) (line more : List ℕ) (P Q : Type 0) → MatchBool ended (IsEnded line × P) (IsUnended line × Q) → passes_limits progress.room line ≡ true → StopsOver progress (all_lines (lines_of (line ++ more)))
 over-limit progress true line more P Q is over = rw (ended-lines line more is.0) (over-first progress line (all_lines (lines_of more)) over)
 over-limit progress false line more P Q is over = over-open progress line more (unended-open line is.0) over
+
+-- ## Lines within the limits
+
+pub within-room : (room : ℕ) (line : List ℕ) → passes_limits room line ≡ false → length line ≤ room
+within-room room line within = grind (arith, within)
+
+pub within-line : (room : ℕ) (line : List ℕ) → passes_limits room line ≡ false → length (text_of_line line) ≤ line_limit
+within-line room line within = grind (arith, within)
+
+-- a test of a line as it was taken
+pub limits-at : (room taken : ℕ) (line text : List ℕ) (test value : Bool) → test ≡ passes_limits taken text → taken ≡ room → text ≡ line → test ≡ value → passes_limits room line ≡ value
+limits-at room taken line text test value is r l e = rw (sym r, sym l) (sym is ∙ e)

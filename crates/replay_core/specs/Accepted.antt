@@ -1,10 +1,10 @@
 -- What the journal of a script's run has to hold: the accepted lines.
-use Rattle.std.specs.Prelude.{ℕ, List, [], ◌∷◌, ◌++◌, Bool, false, Option, Some, length, nat_lt, if◌then◌else◌}
+use Rattle.std.specs.Prelude.{ℕ, List, [], ◌∷◌, ◌++◌, Bool, false, Option, Some, if◌then◌else◌}
 use Rattle.std.specs.Option.{is_none}
-use Rattle.machine_model.specs.Machine.{refusal}
-use Rattle.machine_model.specs.State.{State}
+use Rattle.run_model.specs.Machine.{refusal}
+use Rattle.run_model.specs.State.{State}
 use Rattle.replay_core.specs.Pieces.{text_of_line}
-use Rattle.replay_core.specs.Replay.{Outcome, Goes, Stops, Progress, line_read, on_line}
+use Rattle.replay_core.specs.Replay.{Outcome, Goes, Stops, Progress, line_read, on_line, passes_limits}
 use Rattle.replay_core.specs.declared.line.Line.{Line}
 use Rattle.replay_core.specs.declared.line.Line.TheVariants as line
 use Rattle.requests.specs.declared.requested.Requested.TheVariants as requested
@@ -18,11 +18,11 @@ is_accepted state _ = false
 abbrev pub line_where : Bool → List ℕ → List (List ℕ)
 line_where accepted line = if accepted then text_of_line line ∷ [] else []
 
--- what a line adds; one that passes the limit of a whole script is outside the grammar
+-- what a line adds; one that passes a limit is outside the grammar
 unfoldable pub accepted_line : Progress → List ℕ → List (List ℕ)
 accepted_line progress line =
-    if nat_lt progress.room (length line) then []
-    else line_where (is_accepted progress.state (line_read progress line)) line
+    if passes_limits progress.room line then []
+    else line_where (is_accepted progress.state (line_read line)) line
 
 -- a run that goes on adds this next, and one that has ended no more
 abbrev pub added_next : Outcome → (Progress → List (List ℕ)) → List (List ℕ)

@@ -14,6 +14,7 @@ use Rattle.replay_core.specs.Script.{GathersPrefix}
 use Rattle.replay_core.specs.declared.end.LineFault.{LineFault}
 use Rattle.replay_core.specs.declared.end.LineFault.TheVariants as fault
 use Rattle.replay_core.specs.declared.end.ReplayEnd.{ReplayEnd}
+use Rattle.replay_core.specs.declared.form.Form.{Form}
 use Rattle.replay_core.specs.declared.end.ReplayEnd.TheVariants.{Done, Script, ReadFault, WriteFault, NumbersSpent, Memory}
 
 -- A rig that tells, with two empty files that are on the disk, and no call set to fail.
@@ -69,38 +70,38 @@ FinishesLog added old new before said (Err fault.Memory) =
 -- ## A script
 
 -- Broken off: file A has the accepted ones of so many lines, and no more than their text was printed.
-pub record IsCutOff (IsBegun : List ℕ → Type 0) (lines : List (List ℕ)) (file : List ℕ) : Type 0 where
+pub record IsCutOff (form : Form) (IsBegun : List ℕ → Type 0) (lines : List (List ℕ)) (file : List ℕ) : Type 0 where
   pub count : ℕ
-  pub stands : StandsFor (accepted_lines start (take count lines)) file
-  pub printed : IsBegun (text_of (on_lines start (take count lines)))
+  pub stands : StandsFor (accepted_lines (start form) (take count lines)) file
+  pub printed : IsBegun (text_of (on_lines (start form) (take count lines)))
 
 -- Broken off within these lines, or in the end line behind them.
-abbrev pub IsCutShort : (List ℕ → Type 0) → List (List ℕ) → List ℕ → Type 0
-IsCutShort IsBegun lines file =
-    IsCutOff IsBegun lines file
-    ⊎ (StandsFor (accepted_lines start lines) file × IsBegun (finish (on_lines start lines)).text)
+abbrev pub IsCutShort : Form → (List ℕ → Type 0) → List (List ℕ) → List ℕ → Type 0
+IsCutShort form IsBegun lines file =
+    IsCutOff form IsBegun lines file
+    ⊎ (StandsFor (accepted_lines (start form) lines) file × IsBegun (finish (on_lines (start form) lines)).text)
 
 -- What file A has when a run of these lines ends: all that were accepted, or, where the run was broken off,
 -- those of the first lines, and then no more than the text of these was printed. A test says that a prefix
 -- of a text is printed.
-abbrev pub Holds : (List ℕ → Type 0) → List (List ℕ) → List ℕ → ReplayEnd → Type 0
-Holds IsBegun lines file Done = StandsFor (accepted_lines start lines) file
-Holds IsBegun lines file (Script line) = StandsFor (accepted_lines start lines) file
-Holds IsBegun lines file NumbersSpent = StandsFor (accepted_lines start lines) file
-Holds IsBegun lines file ReadFault = IsCutOff IsBegun lines file
-Holds IsBegun lines file WriteFault = IsCutShort IsBegun lines file
-Holds IsBegun lines file Memory = IsCutShort IsBegun lines file
+abbrev pub Holds : Form → (List ℕ → Type 0) → List (List ℕ) → List ℕ → ReplayEnd → Type 0
+Holds form IsBegun lines file Done = StandsFor (accepted_lines (start form) lines) file
+Holds form IsBegun lines file (Script line) = StandsFor (accepted_lines (start form) lines) file
+Holds form IsBegun lines file NumbersSpent = StandsFor (accepted_lines (start form) lines) file
+Holds form IsBegun lines file ReadFault = IsCutOff form IsBegun lines file
+Holds form IsBegun lines file WriteFault = IsCutShort form IsBegun lines file
+Holds form IsBegun lines file Memory = IsCutShort form IsBegun lines file
 
 -- the same of a script's bytes
-abbrev pub HoldsOf : (List ℕ → Type 0) → List ℕ → List ℕ → ReplayEnd → Type 0
-HoldsOf IsBegun script file end = Holds IsBegun (all_lines (lines_of script)) file end
+abbrev pub HoldsOf : Form → (List ℕ → Type 0) → List ℕ → List ℕ → ReplayEnd → Type 0
+HoldsOf form IsBegun script file end = Holds form IsBegun (all_lines (lines_of script)) file end
 
 -- no more than a prefix of a text was printed, but for what has gathered
 abbrev pub GathersSome : Outgoing → Outgoing → List ℕ → List ℕ → Type 0
 GathersSome old new said text = GathersPrefix old new said text ⊎ (FailsWriting text old new × (said ≡ []))
 
 -- what file A holds of a run that ended so, but for writing what has gathered
-pub record HasLogged (in0 : Incoming) (out0 out1 : Outgoing) (said : List ℕ) (old new : MemoryRig) (end : ReplayEnd) : Type 0 where
-  pub holds : (flow : Flow) → in0.flow ≡ Some flow → HoldsOf (GathersSome out0 out1 said) flow.left new.a.bytes end
+pub record HasLogged (form : Form) (in0 : Incoming) (out0 out1 : Outgoing) (said : List ℕ) (old new : MemoryRig) (end : ReplayEnd) : Type 0 where
+  pub holds : (flow : Flow) → in0.flow ≡ Some flow → HoldsOf form (GathersSome out0 out1 said) flow.left new.a.bytes end
   pub synced : IsOnDisk new ⊎ (end ≡ Memory)
   pub starved : (new.counts.starved ≡ old.counts.starved) ⊎ (end ≡ Memory)

@@ -1,19 +1,19 @@
 -- What a script makes the documented machine say, and how it ends.
-use Rattle.std.specs.Prelude.{ℕ, ◌+◌, ◌-◌, List, [], ◌∷◌, ◌++◌, Option, Some, None}
-use Rattle.std.specs.Prelude.{length, nat_lt, ◌==◌, if◌then◌else◌, codes, decimal, flat_map}
+use Rattle.std.specs.Prelude.{ℕ, ◌+◌, ◌-◌, Bool, ◌||◌, List, [], ◌∷◌, ◌++◌, Option, Some, None}
+use Rattle.std.specs.Prelude.{length, map, nat_lt, ◌==◌, if◌then◌else◌, codes, decimal, flat_map}
+use Rattle.std.specs.List.{join_with_byte}
 use Rattle.kinds.specs.Limits.{shipped}
 use Rattle.kinds.specs.Refusal.{refusal_answer}
 use Rattle.kinds.specs.declared.input.Input.{Input}
-use Rattle.kinds.specs.declared.input.Input.TheVariants.{Register}
 use Rattle.kinds.specs.declared.out.Out.{Out}
 use Rattle.kinds.specs.declared.out.Out.TheVariants.{Hang, Answer, Call}
 use Rattle.kinds.specs.declared.refusal.Refusal.{Refusal}
 use Rattle.kinds.specs.declared.refusal.Refusal.TheVariants.{NumbersSpent, UnknownCall, UnknownRun}
-use Rattle.machine_model.specs.Machine.{Stepped, step, refusal}
-use Rattle.machine_model.specs.State.{State, empty, live}
+use Rattle.run_model.specs.Machine.{Stepped, step, refusal}
+use Rattle.run_model.specs.State.{State, empty, live}
 use Rattle.replay_core.specs.Line.{read_line}
-use Rattle.replay_core.specs.declared.line.Grammar.{Grammar}
-use Rattle.replay_core.specs.declared.line.Grammar.TheVariants.{Whole, WithoutEvents}
+use Rattle.replay_core.specs.declared.form.Form.{Form}
+use Rattle.replay_core.specs.declared.form.Form.TheVariants.{Full, Brief}
 use Rattle.replay_core.specs.declared.line.Line.{Line}
 use Rattle.replay_core.specs.declared.line.Line.TheVariants as line
 use Rattle.replay_core.specs.Pieces.{all_lines, lines_of, text_of_line}
@@ -36,8 +36,8 @@ pub record Transcript : Type 0 where
 -- where a script's run stands between two lines
 pub record Progress : Type 0 where
   pub state : State
-  -- which lines there are
-  pub grammar : Grammar
+  -- how calls are printed
+  pub form : Form
   -- the lines read so far
   pub lines : ℕ
   -- the bytes that the script may still have
@@ -45,10 +45,14 @@ pub record Progress : Type 0 where
 
 -- the bytes of a whole script
 abbrev pub script_limit : ℕ
-script_limit = 1048576
+script_limit = 268435456
 
-abbrev pub start : Progress
-start = record { state = empty shipped; grammar = Whole; lines = 0; room = script_limit }
+-- the bytes of a line, without the byte that ends it
+abbrev pub line_limit : ℕ
+line_limit = 5242880
+
+abbrev pub start : Form → Progress
+start form = record { state = empty shipped; form = form; lines = 0; room = script_limit }
 
 -- a run that goes on, or one that has ended, each with what was printed
 pub data Outcome : Type 0 where
@@ -66,11 +70,37 @@ body_text (byte ∷ bytes) = 32 ∷ byte ∷ bytes
 abbrev pub port_text : ℕ → List ℕ
 port_text port = if port == 80 then [] else codes ":" ++ decimal port
 
-abbrev pub printed : Out → List ℕ
-printed (Hang call) = codes "hang " ++ decimal call ++ codes "\n"
-printed (Answer status body) = codes "answer " ++ decimal status ++ body_text body ++ codes "\n"
-printed (Call call function target run attempt steps events host port path body) =
-    codes "call " ++ decimal call ++ codes " POST http://" ++ host ++ port_text port ++ path ++ codes " " ++ body ++ codes "\n"
+abbrev pub event_id : ℕ → List ℕ
+event_id event = codes "evt-" ++ decimal event
+
+-- parted by commas (44)
+abbrev pub ids_text : List ℕ → List ℕ
+ids_text events = join_with_byte 44 (map event_id events)
+
+-- the run that a call is of, and its events
+abbrev pub brief_run : ℕ → ℕ → ℕ → List ℕ → List ℕ
+brief_run run attempt steps events =
+    codes " run " ++ decimal run ++ codes " attempt " ++ decimal attempt ++ codes " steps " ++ decimal steps
+    ++ codes " events " ++ ids_text events ++ codes "\n"
+
+-- a call by what it is of
+abbrev pub brief_call : ℕ → List ℕ → List ℕ → ℕ → ℕ → ℕ → List ℕ → List ℕ
+brief_call call function target run attempt steps events =
+    codes "call " ++ decimal call ++ codes " " ++ function ++ codes " " ++ target ++ brief_run run attempt steps events
+
+-- a call with its request
+abbrev pub full_call : ℕ → List ℕ → ℕ → List ℕ → List ℕ → List ℕ
+full_call call host port path body =
+    codes "call " ++ decimal call ++ codes " POST http://" ++ host ++ port_text port ++ path ++ codes " " ++ body
+    ++ codes "\n"
+
+abbrev pub printed : Form → Out → List ℕ
+printed form (Hang call) = codes "hang " ++ decimal call ++ codes "\n"
+printed form (Answer status body) = codes "answer " ++ decimal status ++ body_text body ++ codes "\n"
+printed Full (Call call function target run attempt steps events host port path body) =
+    full_call call host port path body
+printed Brief (Call call function target run attempt steps events host port path body) =
+    brief_call call function target run attempt steps events
 
 abbrev pub end_line : State → List ℕ
 end_line s =
@@ -85,24 +115,19 @@ end_line s =
 abbrev pub counted : Progress → ℕ → Progress
 counted progress size = record progress { lines = progress.lines + 1; room = progress.room - size }
 
--- Functions make no runs yet, so once a registration was accepted there are no lines of events.
-abbrev pub grammar_after : Input → Grammar → Grammar
-grammar_after (Register at app) grammar = WithoutEvents
-grammar_after _ grammar = grammar
-
-abbrev pub taken : Progress → Input → Stepped → Outcome
-taken progress input stepped =
-    Goes (record progress { state = stepped.state; grammar = grammar_after input progress.grammar }) (flat_map printed stepped.outs)
+abbrev pub taken : Progress → Stepped → Outcome
+taken progress stepped =
+    Goes (record progress { state = stepped.state }) (flat_map (printed progress.form) stepped.outs)
 
 -- A refused input changes nothing. One that names a call that isn't open or an unknown run is outside the grammar.
 abbrev pub refused : Progress → Refusal → Outcome
 refused progress (NumbersSpent greatest) = Stops Spent []
 refused progress (UnknownCall call) = Stops (Outside progress.lines) []
 refused progress (UnknownRun run) = Stops (Outside progress.lines) []
-refused progress cause = Goes progress (printed (refusal_answer cause))
+refused progress cause = Goes progress (printed progress.form (refusal_answer cause))
 
 abbrev pub on_check : Progress → Input → Option Refusal → Outcome
-on_check progress input None = taken progress input (step progress.state input)
+on_check progress input None = taken progress (step progress.state input)
 on_check progress input (Some cause) = refused progress cause
 
 abbrev pub on_input : Progress → Input → Outcome
@@ -113,17 +138,21 @@ abbrev pub says : Progress → Option Line → Outcome
 says progress None = Stops (Outside progress.lines) []
 says progress (Some line.Passed) = Goes progress []
 says progress (Some (line.Asks (requested.Input input))) = on_input progress input
-says progress (Some (line.Asks (requested.Answered out))) = Goes progress (printed out)
+says progress (Some (line.Asks (requested.Answered out))) = Goes progress (printed progress.form out)
 
 -- what a line says, given with the byte that ends it
-abbrev pub line_read : Progress → List ℕ → Option Line
-line_read progress line = read_line progress.grammar (text_of_line line)
+abbrev pub line_read : List ℕ → Option Line
+line_read line = read_line (text_of_line line)
 
--- a line with the byte that ends it; where it passes the limit of a whole script, it is outside the grammar
+-- a line that passes what is left of a script, or the limit of a line
+abbrev pub passes_limits : ℕ → List ℕ → Bool
+passes_limits room line = nat_lt room (length line) || nat_lt line_limit (length (text_of_line line))
+
+-- a line with the byte that ends it; where it passes a limit, it is outside the grammar
 unfoldable pub on_line : Progress → List ℕ → Outcome
 on_line progress line =
-    if nat_lt progress.room (length line) then Stops (Outside (progress.lines + 1)) []
-    else says (counted progress (length line)) (line_read progress line)
+    if passes_limits progress.room line then Stops (Outside (progress.lines + 1)) []
+    else says (counted progress (length line)) (line_read line)
 
 -- text was printed before
 abbrev pub after_text : List ℕ → Outcome → Outcome
@@ -149,5 +178,5 @@ finish (Goes progress text) = record { text = text ++ end_line progress.state; e
 finish (Stops ending text) = record { text = text; ending = ending }
 
 -- what a script prints from a blank start, and how it ends
-abbrev pub transcript : List ℕ → Transcript
-transcript bytes = finish (on_lines start (all_lines (lines_of bytes)))
+abbrev pub transcript : Form → List ℕ → Transcript
+transcript form bytes = finish (on_lines (start form) (all_lines (lines_of bytes)))

@@ -7,6 +7,7 @@ use Rattle.replay_core.specs.Pieces.{lines_of}
 use Rattle.replay_core.specs.Reading.{IsRead}
 use Rattle.replay_core.specs.Replay.{Goes, Outside, Spent, Finished, Progress, on_lines, start, transcript}
 use Rattle.replay_core.specs.declared.end.ReplayEnd.{ReplayEnd}
+use Rattle.replay_core.specs.declared.form.Form.{Form}
 use Rattle.replay_core.specs.declared.end.ReplayEnd.TheVariants.{Done, Script, ReadFault, WriteFault, NumbersSpent, Memory}
 
 -- ## Counts of faults, by how a run ends
@@ -52,38 +53,38 @@ Writes old new said left = (part : List ℕ) × (new ≡ after_write part old) �
 -- ## How a run ended
 
 -- At a fault of the source each line that was ended before it is in the grammar, and all its lines are printed.
-pub record IsBroken (IsPrinted : List ℕ → Type 0) (flow : Flow) (new_flow : Option Flow) : Type 0 where
+pub record IsBroken (form : Form) (IsPrinted : List ℕ → Type 0) (flow : Flow) (new_flow : Option Flow) : Type 0 where
   pub bytes : List ℕ
   pub read : IsRead flow bytes new_flow
   pub progress : Progress
   pub text : List ℕ
-  pub ended : on_lines start (lines_of bytes).ended ≡ Goes progress text
+  pub ended : on_lines (start form) (lines_of bytes).ended ≡ Goes progress text
   pub printed : IsPrinted text
 
 -- What was read of a script and printed, by how its run ended, where it is said of a text what it is that
 -- the whole of it, a prefix of it, and a prefix at a fault of the sink is printed.
-abbrev pub EndsAs : (List ℕ → Type 0) → (List ℕ → Type 0) → (List ℕ → Type 0) → Flow → Option Flow → ReplayEnd → Type 0
-EndsAs IsPrinted IsBegun IsFailed flow new_flow Done =
-    ((transcript flow.left).ending ≡ Finished)
+abbrev pub EndsAs : Form → (List ℕ → Type 0) → (List ℕ → Type 0) → (List ℕ → Type 0) → Flow → Option Flow → ReplayEnd → Type 0
+EndsAs form IsPrinted IsBegun IsFailed flow new_flow Done =
+    ((transcript form flow.left).ending ≡ Finished)
     × IsRead flow flow.left new_flow
-    × IsPrinted (transcript flow.left).text
-EndsAs IsPrinted IsBegun IsFailed flow new_flow (Script line) =
-    ((transcript flow.left).ending ≡ Outside line) × IsPrinted (transcript flow.left).text
-EndsAs IsPrinted IsBegun IsFailed flow new_flow NumbersSpent =
-    ((transcript flow.left).ending ≡ Spent) × IsPrinted (transcript flow.left).text
-EndsAs IsPrinted IsBegun IsFailed flow new_flow ReadFault = IsBroken IsPrinted flow new_flow
-EndsAs IsPrinted IsBegun IsFailed flow new_flow WriteFault = IsFailed (transcript flow.left).text
-EndsAs IsPrinted IsBegun IsFailed flow new_flow Memory = IsBegun (transcript flow.left).text
+    × IsPrinted (transcript form flow.left).text
+EndsAs form IsPrinted IsBegun IsFailed flow new_flow (Script line) =
+    ((transcript form flow.left).ending ≡ Outside line) × IsPrinted (transcript form flow.left).text
+EndsAs form IsPrinted IsBegun IsFailed flow new_flow NumbersSpent =
+    ((transcript form flow.left).ending ≡ Spent) × IsPrinted (transcript form flow.left).text
+EndsAs form IsPrinted IsBegun IsFailed flow new_flow ReadFault = IsBroken form IsPrinted flow new_flow
+EndsAs form IsPrinted IsBegun IsFailed flow new_flow WriteFault = IsFailed (transcript form flow.left).text
+EndsAs form IsPrinted IsBegun IsFailed flow new_flow Memory = IsBegun (transcript form flow.left).text
 
 -- where nothing gathers
-abbrev pub Replays : Outgoing → Outgoing → Flow → Option Flow → ReplayEnd → Type 0
-Replays old new flow new_flow end =
-    EndsAs (λ text. new ≡ after_write text old) (PutsPrefix old new) (λ text. FailsWriting text old new) flow new_flow end
+abbrev pub Replays : Form → Outgoing → Outgoing → Flow → Option Flow → ReplayEnd → Type 0
+Replays form old new flow new_flow end =
+    EndsAs form (λ text. new ≡ after_write text old) (PutsPrefix old new) (λ text. FailsWriting text old new) flow new_flow end
 
 -- where this has gathered
-abbrev pub Gathered : Outgoing → Outgoing → List ℕ → Flow → Option Flow → ReplayEnd → Type 0
-Gathered old new said flow new_flow end =
-    EndsAs (Gathers old new said) (GathersPrefix old new said) (λ text. FailsWriting text old new) flow new_flow end
+abbrev pub Gathered : Form → Outgoing → Outgoing → List ℕ → Flow → Option Flow → ReplayEnd → Type 0
+Gathered form old new said flow new_flow end =
+    EndsAs form (Gathers old new said) (GathersPrefix old new said) (λ text. FailsWriting text old new) flow new_flow end
 
 -- nothing has gathered where a call of the source or the sink failed
 abbrev pub IsSilentAt : ReplayEnd → List ℕ → Type 0
@@ -95,8 +96,8 @@ IsSilentAt NumbersSpent said = Unit {0}
 IsSilentAt Memory said = Unit {0}
 
 -- a run that ended so, but for writing what has gathered
-pub record HasRun (in0 in1 : Incoming) (out0 out1 : Outgoing) (said : List ℕ) (end : ReplayEnd) : Type 0 where
-  pub replays : (flow : Flow) → in0.flow ≡ Some flow → Gathered out0 out1 said flow in1.flow end
+pub record HasRun (form : Form) (in0 in1 : Incoming) (out0 out1 : Outgoing) (said : List ℕ) (end : ReplayEnd) : Type 0 where
+  pub replays : (flow : Flow) → in0.flow ≡ Some flow → Gathered form out0 out1 said flow in1.flow end
   pub reads : in1.faults ≡ read_faults end in0.faults
   pub writes : out1.faults ≡ write_faults end out0.faults
   pub silent : IsSilentAt end said

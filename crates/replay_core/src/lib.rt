@@ -6,6 +6,7 @@
 
 mod bytes;
 mod end;
+mod form;
 mod laws;
 mod line;
 mod log;
@@ -13,8 +14,10 @@ mod logged;
 mod printing;
 mod progress;
 mod reader;
+mod reply;
 mod script;
 
 pub use end::ReplayEnd;
+pub use form::Form;
 pub use laws::accepted_lines_go_on;
 pub use script::{run_lines, run_script};

@@ -1,13 +1,14 @@
 // The run of a script together with the journal of its accepted lines.
-ghost use Rattle.std.specs.Prelude.{◌≡◌, ◌<◌, ◌≤◌, ◌++◌, ◌+◌, [], true, IfErr, IfOk, OnErr, OnOk, length};
+ghost use Rattle.std.specs.Prelude.{◌≡◌, ◌<◌, ◌≤◌, ◌++◌, ◌+◌, [], false, true, IfErr, IfOk, OnErr, OnOk, length};
 ghost use Rattle.journal_core.specs.Records.{StandsFor, greatest};
 ghost use Rattle.replay_core.specs.Accepted.{accepted_line, accepted_lines, line_where};
 ghost use Rattle.replay_core.specs.Log.{FinishesLog, IsBlank, IsLogging, Logs, StandsForEither, StopsLog, payloads_in};
 ghost use Rattle.replay_core.specs.Pieces.{last_line, text_of_line};
-ghost use Rattle.replay_core.specs.Replay.{end_line, finish, on_line, on_lines, start};
+ghost use Rattle.replay_core.specs.Replay.{end_line, finish, on_line, on_lines, passes_limits, start};
 ghost use Rattle.replay_core.specs.Run.{Finishes, Says};
 
 use crate::end::LineFault;
+use crate::form::Form;
 use crate::line::text_of_line;
 use crate::log::{append_line, open_journal};
 use crate::progress::{Progress, Ran};
@@ -25,14 +26,14 @@ pub struct Logged {
 
 impl Logged {
     /// A run that has read nothing, over a blank rig.
-    pub fn start(alloc: Global, rig: &mut MemRig) -> Result<Self, Memory>
+    pub fn start(alloc: Global, form: Form, rig: &mut MemRig) -> Result<Self, Memory>
         requires { IsBlank rig.old }
-        ensures progress { IfOk result (λ logged. logged.progress ≡ start) }
+        ensures progress { IfOk result (λ logged. logged.progress ≡ start form) }
         ensures log { IfOk result (λ logged. Logs [] [] logged.journal rig.new) }
         ensures failed { OnErr result (StandsFor [] rig.new.a.bytes) }
         ensures starved { OnOk result (rig.new.counts.starved ≡ rig.old.counts.starved) }
     {
-        let progress = Progress::start(alloc)?;
+        let progress = Progress::start(alloc, form)?;
         let journal = open_journal(alloc, rig)?;
         Ok(Logged { progress, journal })
     }
@@ -45,7 +46,7 @@ impl Logged {
         said: &mut Bytes,
     ) -> Result<Self, LineFault>
         requires some { 0 < length line.now }
-        requires room { length line.now ≤ self.progress.room }
+        requires within { passes_limits self.progress.room line.now ≡ false }
         requires logging { IsLogging self.journal rig.old }
         ensures run { Says (on_line self.progress line.now) said.old said.new result }
         ensures log { IfOk result
@@ -66,7 +67,7 @@ impl Logged {
 
     /// Runs what follows the last ended line, and adds to `said` what it says and the end line.
     pub fn finish(self, last: &[u8], rig: &mut MemRig, said: &mut Bytes) -> Result<(), LineFault>
-        requires room { length last.now ≤ self.progress.room }
+        requires within { passes_limits self.progress.room last.now ≡ false }
         requires logging { IsLogging self.journal rig.old }
         ensures run { Finishes (finish (on_lines self.progress (last_line last.now))) said.old
             said.new result }

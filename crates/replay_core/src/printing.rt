@@ -1,50 +1,131 @@
 // The lines that a script's run prints, as texts.
-ghost use Rattle.std.specs.Prelude.{◌≡◌, ◌++◌, IfOk, OnOk, codes, decimal, flat_map};
-ghost use Rattle.replay_core.specs.Replay.{body_text, end_line, port_text, printed};
+ghost use Rattle.std.specs.Prelude.{◌≡◌, ◌∷◌, ◌++◌, [], IfOk, OnOk, codes, decimal, flat_map, if◌then◌else◌};
+ghost use Rattle.replay_core.specs.Replay.{body_text, brief_call, brief_run, end_line, event_id, full_call, ids_text, port_text, printed};
 
+use crate::form::Form;
 use kinds::Out;
 use lists::{Bytes, Memory};
 use machine::Machine;
 use std::alloc::Global;
 
 /// What a step says, a line for each, in order.
-pub fn outs_text(alloc: Global, outs: &[Out]) -> Result<Bytes, Memory>
-    ensures { IfOk result (λ text. text ≡ flat_map printed outs.now) }
+pub fn outs_text(alloc: Global, form: Form, outs: &[Out]) -> Result<Bytes, Memory>
+    ensures { IfOk result (λ text. text ≡ flat_map (printed form) outs.now) }
 {
     let mut text = Bytes::new(alloc);
     for out in outs {
-        push_out(out, &mut text)?;
+        push_out(form, out, &mut text)?;
     }
     Ok(text)
 }
 
 /// One line.
-pub fn out_text(alloc: Global, out: &Out) -> Result<Bytes, Memory>
-    ensures { IfOk result (λ text. text ≡ printed out.now) }
+pub fn out_text(alloc: Global, form: Form, out: &Out) -> Result<Bytes, Memory>
+    ensures { IfOk result (λ text. text ≡ printed form out.now) }
 {
     let mut text = Bytes::new(alloc);
-    push_out(out, &mut text)?;
+    push_out(form, out, &mut text)?;
     Ok(text)
 }
 
-fn push_out(out: &Out, text: &mut Bytes) -> Result<(), Memory>
-    ensures { OnOk result (text.new ≡ text.old ++ printed out.now) }
+fn push_out(form: Form, out: &Out, text: &mut Bytes) -> Result<(), Memory>
+    ensures { OnOk result (text.new ≡ text.old ++ printed form out.now) }
 {
     match out {
         Out::Hang { call } => push_hang(*call, text),
         Out::Answer { status, body } => push_answer(*status, body.as_slice(), text),
         Out::Call {
             call,
+            function,
+            target,
+            run,
+            attempt,
+            steps,
+            events,
             host,
             port,
             path,
             body,
-            ..
-        } => {
-            push_address(*call, host.as_slice(), *port, text)?;
-            push_request(path.as_slice(), body.as_slice(), text)
-        }
+        } => match form {
+            Form::Full => {
+                push_address(*call, host.as_slice(), *port, text)?;
+                push_request(path.as_slice(), body.as_slice(), text)
+            }
+            Form::Brief => {
+                push_target(*call, function.as_slice(), target.as_slice(), text)?;
+                push_run(*run, *attempt, *steps, events.as_slice(), text)
+            }
+        },
     }
+}
+
+// `call N FUNCTION TARGET`.
+fn push_target(call: u64, function: &[u8], target: &[u8], text: &mut Bytes) -> Result<(), Memory>
+    ensures { OnOk result (text.new ≡ text.old ++
+        codes "call " ++ decimal call ++ codes " " ++ function.now ++ codes " " ++ target.now) }
+{
+    text.extend_from_slice(b"call ")?;
+    text.push_decimal(call)?;
+    text.push(b' ')?;
+    text.extend_from_slice(function)?;
+    text.push(b' ')?;
+    text.extend_from_slice(target)
+}
+
+// What stands behind the target, and the end of the line.
+fn push_run(
+    run: u64,
+    attempt: u8,
+    steps: u64,
+    events: &[u64],
+    text: &mut Bytes,
+) -> Result<(), Memory>
+    ensures { OnOk result (text.new ≡ text.old ++ brief_run run attempt steps events.now) }
+{
+    push_counts(run, attempt, steps, text)?;
+    push_events(events, text)
+}
+
+// ` run R attempt A steps S`.
+fn push_counts(run: u64, attempt: u8, steps: u64, text: &mut Bytes) -> Result<(), Memory>
+    ensures { OnOk result (text.new ≡ text.old ++ codes " run " ++ decimal run
+        ++ codes " attempt " ++ decimal attempt ++ codes " steps " ++ decimal steps) }
+{
+    text.extend_from_slice(b" run ")?;
+    text.push_decimal(run)?;
+    text.extend_from_slice(b" attempt ")?;
+    text.push_decimal(u64::from(attempt))?;
+    text.extend_from_slice(b" steps ")?;
+    text.push_decimal(steps)
+}
+
+// ` events evt-1,evt-2` and the end of the line.
+fn push_events(events: &[u64], text: &mut Bytes) -> Result<(), Memory>
+    ensures { OnOk result (text.new ≡ text.old ++ codes " events " ++ ids_text events.now ++ codes "\n") }
+{
+    text.extend_from_slice(b" events ")?;
+    push_ids(events, text)?;
+    text.push(b'\n')
+}
+
+fn push_ids(events: &[u64], text: &mut Bytes) -> Result<(), Memory>
+    ensures { OnOk result (text.new ≡ text.old ++ ids_text events.now) }
+{
+    for (index, event) in events.iter().enumerate() {
+        push_id(index == 0, *event, text)?;
+    }
+    Ok(())
+}
+
+// One more id, with a comma before it where it isn't the first.
+fn push_id(is_first: bool, event: u64, text: &mut Bytes) -> Result<(), Memory>
+    ensures { OnOk result (text.new ≡ text.old ++ (if is_first then [] else 44 ∷ []) ++ event_id event) }
+{
+    if !is_first {
+        text.push(b',')?;
+    }
+    text.extend_from_slice(b"evt-")?;
+    text.push_decimal(event)
 }
 
 // `hang N`.

@@ -1,31 +1,35 @@
 // The run of a script between two lines. A line's run gives a text and writes nothing.
 ghost use Rattle.std.specs.Prelude.{◌≡◌, ◌<◌, ◌≤◌, ◌+◌, ◌⊎◌, [], false, true, IfOk, MatchResult, length};
 ghost use Rattle.std.specs.Option.{is_none};
-ghost use Rattle.machine_model.specs.Machine.{Accepts, refusal, step};
+ghost use Rattle.run_model.specs.Fit.{IsInRange};
+ghost use Rattle.run_model.specs.Machine.{Accepts, refusal, step};
 ghost use Rattle.replay_core.specs.Accepted.{is_accepted};
-ghost use Rattle.replay_core.specs.Replay.{Goes, counted, end_line, grammar_after, line_read, on_input, on_line, printed, refused, start, taken};
+ghost use Rattle.replay_core.specs.Replay.{Goes, counted, end_line, line_limit, line_read, on_input, on_line, passes_limits, printed, refused, start, taken};
 ghost use Rattle.replay_core.specs.Run.{RunsAs};
 ghost use Rattle.replay_core.specs.declared.end.LineFault.TheVariants as fault;
 
 use crate::end::LineFault;
-use crate::line::{Grammar, Line, read_line, text_of_line};
+use crate::form::Form;
+use crate::line::{Line, read_line, text_of_line};
 use crate::printing::{end_line, out_text, outs_text};
-use kinds::{Input, Limits, Out, Refusal};
-use lists::{Bytes, Memory};
+use kinds::{Input, Limits, Out, Refusal, Steps};
+use lists::{Bytes, Items, Memory};
 use machine::Machine;
+use registry::read_functions_are_in_range;
 use requests::Requested;
 use std::alloc::Global;
-use std::marker::Model;
+use std::marker::{Brand, Model};
+use std::sync::ledger::{Blank, Ledger};
 
 /// The bytes that a whole script may have.
-const SCRIPT_LIMIT: usize = 1_048_576;
+const SCRIPT_LIMIT: usize = 268_435_456;
 
 /// The run of a script between two of its lines.
 #[derive(Drop)]
 pub struct Progress {
     alloc: Global,
     machine: Machine,
-    grammar: Grammar,
+    form: Form,
     lines: u64,
     room: usize,
 }
@@ -36,9 +40,9 @@ impl Model for Progress {
 
     ghost Value = { Stand };
 
-    ghost view = { λ p. record { state = p.machine; grammar = p.grammar; lines = p.lines; room = p.room } };
+    ghost view = { λ p. record { state = p.machine; form = p.form; lines = p.lines; room = p.room } };
 
-    ghost invariant = { λ p. p.lines + p.room ≤ 1048576 };
+    ghost invariant = { λ p. p.lines + p.room ≤ 268435456 };
 }
 
 /// What a line did.
@@ -54,13 +58,13 @@ pub struct Ran {
 
 impl Progress {
     /// A run that has read nothing, over a blank machine with the shipped limits.
-    pub fn start(alloc: Global) -> Result<Self, Memory>
-        ensures { IfOk result (λ progress. progress ≡ start) }
+    pub fn start(alloc: Global, form: Form) -> Result<Self, Memory>
+        ensures { IfOk result (λ progress. progress ≡ start form) }
     {
         Ok(Progress {
             alloc,
             machine: Machine::empty(alloc, Limits::shipped())?,
-            grammar: Grammar::Whole,
+            form,
             lines: 0,
             room: SCRIPT_LIMIT,
         })
@@ -84,16 +88,17 @@ impl Progress {
     #[tactic(auto, unfolding(crate::specs::Replay::on_line))]
     pub fn take_line(self, line: &[u8]) -> Result<Ran, LineFault>
         requires some { 0 < length line.now }
-        requires room { length line.now ≤ self.room }
+        requires within { passes_limits self.room line.now ≡ false }
         ensures run { RunsAs (on_line self line.now) result }
         ensures accepted { MatchResult result
-            (λ ran. ran.accepted ≡ is_accepted self.state (line_read self line.now))
-            (λ e. (e ≡ fault.Memory) ⊎ (is_accepted self.state (line_read self line.now) ≡ false)) }
+            (λ ran. ran.accepted ≡ is_accepted self.state (line_read line.now))
+            (λ e. (e ≡ fault.Memory) ⊎ (is_accepted self.state (line_read line.now) ≡ false)) }
         ensures room { IfOk result (λ ran. ran.progress.room + length line.now ≡ self.room) }
-        ensures fits { IfOk result (λ _. length line.now ≤ 1048576) }
     {
+        // So a registration that was read meets what the machine asks of its functions.
+        read_functions_are_in_range();
         let counted = self.count_line(line.len());
-        match read_line(counted.alloc, counted.grammar, text_of_line(line))? {
+        match read_line(counted.alloc, text_of_line(line))? {
             None => Err(LineFault::Outside {
                 line: counted.lines,
             }),
@@ -106,8 +111,7 @@ impl Progress {
     // A line of so many bytes is counted before it is run.
     fn count_line(mut self, size: usize) -> Self
         requires { (0 < size) × (size ≤ self.room) }
-        ensures counted { result ≡ counted self size }
-        ensures fits { size ≤ 1048576 }
+        ensures { result ≡ counted self size }
     {
         self.lines += 1;
         self.room -= size;
@@ -129,9 +133,9 @@ impl Progress {
     // A line that is answered, and changes nothing.
     fn say(self, out: &Out) -> Result<Ran, Memory>
         ensures { IfOk result
-            (λ ran. (ran.progress ≡ self) × (ran.text ≡ printed out.now) × (ran.accepted ≡ false)) }
+            (λ ran. (ran.progress ≡ self) × (ran.text ≡ printed self.form out.now) × (ran.accepted ≡ false)) }
     {
-        let text = out_text(self.alloc, out)?;
+        let text = out_text(self.alloc, self.form, out)?;
         Ok(Ran {
             progress: self,
             text,
@@ -141,6 +145,7 @@ impl Progress {
 
     // Takes an input, or says why it is refused.
     fn take_input(self, input: Input) -> Result<Ran, LineFault>
+        requires ranges { IsInRange input }
         ensures run { RunsAs (on_input self input) result }
         ensures accepted { MatchResult result
             (λ ran. ran.accepted ≡ is_none (refusal self.state input))
@@ -176,16 +181,16 @@ impl Progress {
 
     // Takes an accepted input.
     fn take_accepted(mut self, input: Input) -> Result<Ran, Memory>
-        requires { Accepts self.state input }
+        requires accepted { Accepts self.state input }
+        requires ranges { IsInRange input }
         ensures run { IfOk result
-            (λ ran. taken self input (step self.state input) ≡ Goes ran.progress ran.text) }
+            (λ ran. taken self (step self.state input) ≡ Goes ran.progress ran.text) }
         ensures accepted { IfOk result (λ ran. ran.accepted ≡ true) }
         ensures room { IfOk result (λ ran. ran.progress.room ≡ self.room) }
     {
-        self.grammar = grammar_after(&input, self.grammar);
-        let (machine, outs) = self.machine.step(input)?;
+        let (machine, outs) = step::<Brand>(Blank::new(1), self.machine, input)?;
         self.machine = machine;
-        let text = outs_text(self.alloc, outs.as_slice())?;
+        let text = outs_text(self.alloc, self.form, outs.as_slice())?;
         Ok(Ran {
             progress: self,
             text,
@@ -201,12 +206,17 @@ impl Progress {
     }
 }
 
-// Which lines there are behind an input.
-fn grammar_after(input: &Input, grammar: Grammar) -> Grammar
-    ensures { result ≡ grammar_after input.now grammar }
+// One step of the machine, with a counter of its own for the conditions that it evaluates.
+fn step<L: Ledger>(
+    blank: Blank,
+    machine: Machine,
+    input: Input,
+) -> Result<(Machine, Items<Out>), Memory>
+    requires accepted { Accepts machine input }
+    requires ranges { IsInRange input }
+    ensures { IfOk result
+        (λ answer. (answer.0 ≡ (step machine input).state) × (answer.1 ≡ (step machine input).outs)) }
 {
-    match input {
-        Input::Register { .. } => Grammar::WithoutEvents,
-        _ => grammar,
-    }
+    let mut steps = Steps::<L>::new(blank);
+    machine.step(input, &mut steps)
 }

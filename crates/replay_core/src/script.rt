@@ -4,29 +4,40 @@ ghost use Rattle.rig.specs.Flow.{Flow};
 ghost use Rattle.rig.specs.Written.{FailsWriting, after_write};
 ghost use Rattle.replay_core.specs.Ends.{end_of};
 ghost use Rattle.replay_core.specs.Log.{HasLogged, HoldsOf, IsBlank, IsOnDisk};
+ghost use Rattle.replay_core.specs.Replay.{passes_limits};
 ghost use Rattle.replay_core.specs.Script.{HasRun, PutsPrefix, Replays, Writes, CountsWrites, read_faults};
 
 use crate::ReplayEnd;
 use crate::end::{LineFault, RunFault, end_of, unwritten};
+use crate::form::Form;
+use crate::line::text_of_line;
 use crate::logged::Logged;
 use crate::reader::LineReader;
 use lists::{Bytes, Memory};
 use rig::{MemRig, Sink, Source, WriteFailed};
 use std::alloc::Global;
 
+/// The bytes of a line, without the byte that ends it.
+const LINE_LIMIT: usize = 5_242_880;
+
 /// How many bytes gather before they are written.
 const SAID_SIZE: usize = 65_536;
 
 /// Runs the script that a source gives, from a blank machine, and prints what it says. The lines are the
 /// same however the source cuts them. The run ends where a call of the source or the sink fails.
-pub fn run_script<I: Source, O: Sink>(alloc: Global, input: &mut I, out: &mut O) -> ReplayEnd
+pub fn run_script<I: Source, O: Sink>(
+    alloc: Global,
+    form: Form,
+    input: &mut I,
+    out: &mut O,
+) -> ReplayEnd
     ensures replays { (flow : Flow) → (I.incoming input.old).flow ≡ Some flow →
-        Replays (O.outgoing out.old) (O.outgoing out.new) flow (I.incoming input.new).flow result }
+        Replays form (O.outgoing out.old) (O.outgoing out.new) flow (I.incoming input.new).flow result }
     ensures reads { (I.incoming input.new).faults ≡ read_faults result (I.incoming input.old).faults }
     ensures writes { CountsWrites result (O.outgoing out.old).faults (O.outgoing out.new).faults }
 {
     match MemRig::new(alloc, 0) {
-        Ok(mut rig) => run_lines(alloc, &mut rig, input, out),
+        Ok(mut rig) => run_lines(alloc, form, &mut rig, input, out),
         Err(Memory) => ReplayEnd::Memory,
     }
 }
@@ -36,22 +47,23 @@ pub fn run_script<I: Source, O: Sink>(alloc: Global, input: &mut I, out: &mut O)
 /// on the disk, but where memory ran out. Want of memory of the rig's own is answered as such.
 pub fn run_lines<I: Source, O: Sink>(
     alloc: Global,
+    form: Form,
     rig: &mut MemRig,
     input: &mut I,
     out: &mut O,
 ) -> ReplayEnd
     requires blank { IsBlank rig.old }
     ensures replays { (flow : Flow) → (I.incoming input.old).flow ≡ Some flow →
-        Replays (O.outgoing out.old) (O.outgoing out.new) flow (I.incoming input.new).flow result }
+        Replays form (O.outgoing out.old) (O.outgoing out.new) flow (I.incoming input.new).flow result }
     ensures reads { (I.incoming input.new).faults ≡ read_faults result (I.incoming input.old).faults }
     ensures writes { CountsWrites result (O.outgoing out.old).faults (O.outgoing out.new).faults }
     ensures holds { (flow : Flow) → (I.incoming input.old).flow ≡ Some flow →
-        HoldsOf (PutsPrefix (O.outgoing out.old) (O.outgoing out.new)) flow.left rig.new.a.bytes result }
+        HoldsOf form (PutsPrefix (O.outgoing out.old) (O.outgoing out.new)) flow.left rig.new.a.bytes result }
     ensures synced { IsOnDisk rig.new ⊎ (result ≡ ReplayEnd.Memory) }
     ensures starved { (rig.new.counts.starved ≡ rig.old.counts.starved) ⊎ (result ≡ ReplayEnd.Memory) }
 {
     let mut said = Bytes::new(alloc);
-    let end = end_of(run_all(alloc, rig, input, out, &mut said));
+    let end = end_of(run_all(alloc, form, rig, input, out, &mut said));
     match write_said(&mut said, out) {
         Ok(()) => end,
         Err(_) => unwritten(end),
@@ -85,9 +97,17 @@ fn write_full<O: Sink>(said: &mut Bytes, out: &mut O) -> Result<(), WriteFailed>
     write_said(said, out)
 }
 
+// Whether a line, as far as it has come, passes what is left of a script, or the limit of a line.
+fn passes_limits(room: usize, line: &[u8]) -> bool
+    ensures { result ≡ passes_limits room line.now }
+{
+    line.len() > room || text_of_line(line).len() > LINE_LIMIT
+}
+
 // Reads and runs lines until the source ends, and writes what they say, but for what has gathered.
 fn run_all<I: Source, O: Sink>(
     alloc: Global,
+    form: Form,
     rig: &mut MemRig,
     input: &mut I,
     out: &mut O,
@@ -95,16 +115,16 @@ fn run_all<I: Source, O: Sink>(
 ) -> Result<(), RunFault>
     requires blank { IsBlank rig.old }
     requires silent { said.old ≡ [] }
-    ensures run { HasRun (I.incoming input.old) (I.incoming input.new) (O.outgoing out.old)
+    ensures run { HasRun form (I.incoming input.old) (I.incoming input.new) (O.outgoing out.old)
         (O.outgoing out.new) said.new (end_of result) }
-    ensures log { HasLogged (I.incoming input.old) (O.outgoing out.old) (O.outgoing out.new)
+    ensures log { HasLogged form (I.incoming input.old) (O.outgoing out.old) (O.outgoing out.new)
         said.new rig.old rig.new (end_of result) }
 {
-    let mut logged = Logged::start(alloc, rig)?;
+    let mut logged = Logged::start(alloc, form, rig)?;
     let mut lines = LineReader::new(alloc)?;
     'reading: loop {
         let ended = lines.end_line()?;
-        if lines.line().len() > logged.progress.room() {
+        if passes_limits(logged.progress.room(), lines.line()) {
             return Err(RunFault::Line(LineFault::Outside {
                 line: logged.progress.next_line(),
             }));

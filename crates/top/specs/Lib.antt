@@ -1,2 +1,3 @@
 pub mod LastLine
 pub mod Outcome
+pub mod Words

@@ -3,6 +3,7 @@ use Rattle.std.specs.Prelude.{ℕ, ◌≡◌, ◌⊎◌, List, Option}
 use Rattle.replay_core.specs.Script.{Replays}
 use Rattle.replay_core.specs.declared.end.ReplayEnd.{ReplayEnd}
 use Rattle.replay_core.specs.declared.end.ReplayEnd.TheVariants as end
+use Rattle.replay_core.specs.declared.form.Form.{Form}
 use Rattle.rig.specs.Faults.{one_more}
 use Rattle.rig.specs.Flow.{Flow}
 use Rattle.rig.specs.Written.{Outgoing, FailsWriting, after_write}
@@ -34,11 +35,11 @@ status_of end.NumbersSpent = NumbersSpent
 status_of end.Memory = Memory
 
 -- A script's lines were written, as far as it ran, and then the last line.
-pub record IsReplay (flow : Flow) (new_flow : Option Flow) (old new : Outgoing) (answer : Status) : Type 0 where
+pub record IsReplay (form : Form) (flow : Flow) (new_flow : Option Flow) (old new : Outgoing) (answer : Status) : Type 0 where
   pub end : ReplayEnd
   pub status : answer ≡ status_of end
   pub mid : Outgoing
-  pub lines : Replays old mid flow new_flow end
+  pub lines : Replays form old mid flow new_flow end
   pub last : Says (last_line end) mid new
 
 -- ## Counts of faults, by the status

@@ -1,4 +1,4 @@
-use replay_core::{ReplayEnd, run_lines};
+use replay_core::{Form, ReplayEnd, run_lines};
 use rig::{FailedWrite, MemRig, MemSink, MemSource, Side};
 use std::process::Abort;
 use std::test::Fail;
@@ -23,7 +23,7 @@ fn check(
     file: &[u8],
 ) -> Result<(), Fail> {
     let mut rig = MemRig::new(rt.alloc(), 0)?;
-    let ended = run_lines(rt.alloc(), &mut rig, input, out);
+    let ended = run_lines(rt.alloc(), Form::Full, &mut rig, input, out);
     assert_eq!(rt; ended, end);
     assert_eq!(rt; rig.file(Side::A), file);
     assert_eq!(rt; rig.file(Side::B).len(), 0);

@@ -17,4 +17,6 @@ mod journal_tests;
 #[cfg(test)]
 mod registration_tests;
 #[cfg(test)]
+mod runs_tests;
+#[cfg(test)]
 mod tests;

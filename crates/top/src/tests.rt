@@ -40,8 +40,29 @@ pub(crate) fn check(
     ends(rt, &mut input, &mut out, printed, status)
 }
 
+// Runs the script of a source with these words, and checks what is printed.
+pub(crate) fn prints(
+    rt: &(impl Abort + AllocGlobal),
+    words: &[String],
+    input: &mut MemSource,
+    printed: &str,
+) -> Result<(), Fail> {
+    let mut rig = MemRig::new(rt.alloc(), 0)?;
+    let mut out = MemSink::new(rt.alloc());
+    run(
+        rt.alloc(),
+        Program::Replay,
+        words,
+        &mut rig,
+        input,
+        &mut out,
+    );
+    assert_eq!(rt; str::from_utf8(out.written()), Ok(printed));
+    Ok(())
+}
+
 // The lines of a row, each ended by a `|`.
-fn lines_of(alloc: Global, text: &str) -> Result<String, Fail> {
+pub(crate) fn lines_of(alloc: Global, text: &str) -> Result<String, Fail> {
     Ok(text.replace(alloc, "|", "\n")?)
 }
 
@@ -113,8 +134,8 @@ fn comment(alloc: Global, size: usize) -> Result<Vec<u8>, Fail> {
 }
 
 #[test]
-fn limit_of_a_script(rt: HostRuntime) -> Result<(), Fail> {
-    let mut script = comment(rt.alloc(), 1_048_576)?;
+fn limit_of_a_line(rt: HostRuntime) -> Result<(), Fail> {
+    let mut script = comment(rt.alloc(), 5_242_880)?;
     check(
         &rt,
         &script,
@@ -149,7 +170,7 @@ fn words_are_refused(rt: HostRuntime) -> Result<(), Fail> {
     );
     assert_eq!(rt; status, Status::Usage);
     assert_eq!(rt; status.number(), 2);
-    assert_eq!(rt; out.written(), b"usage: replay\n".as_slice());
+    assert_eq!(rt; out.written(), b"usage: replay [--brief]\n".as_slice());
     assert_eq!(rt; input.read_count(), 0);
     Ok(())
 }

@@ -5,7 +5,7 @@ use Rattle.replay_core.proofs.script.run_all.Given as goal
 
 abbrev pub invariant-reading : goal.invariant-reading
 invariant-reading g l = record {
-  running : IsRunning (g.I.Source.incoming l.fn.input) (g.I.Source.incoming l.input) (g.O.Sink.outgoing l.fn.out) (g.O.Sink.outgoing l.out) l.said l.rig l.logged l.lines;
+  running : IsRunning l.fn.form (g.I.Source.incoming l.fn.input) (g.I.Source.incoming l.input) (g.O.Sink.outgoing l.fn.out) (g.O.Sink.outgoing l.out) l.said l.rig l.logged l.lines;
   unended : IsUnended l.lines.line;
   starved : l.rig.counts.starved ≡ l.fn.rig.counts.starved;
   within : length l.lines.line ≤ l.logged.progress.room;

@@ -14,13 +14,13 @@ returns-in-Ok g c =
     let out1 = g.O.Sink.outgoing c.run_all.new.out in
     let said = c.run_all.new.said in
     let end = c.end_of-end.result in
-    let run = subst (λ (e : ReplayEnd). HasRun in0 in1 out0 out1 said e) (sym c.end_of-end.ensures) c.run_all.ensures.run in
-    let log = subst (λ (e : ReplayEnd). HasLogged in0 out0 out1 said c.args.rig.now c.run_all.new.rig e) (sym c.end_of-end.ensures) c.run_all.ensures.log in
+    let run = subst (λ (e : ReplayEnd). HasRun c.args.form in0 in1 out0 out1 said e) (sym c.end_of-end.ensures) c.run_all.ensures.run in
+    let log = subst (λ (e : ReplayEnd). HasLogged c.args.form in0 out0 out1 said c.args.rig.now c.run_all.new.rig e) (sym c.end_of-end.ensures) c.run_all.ensures.log in
     record {
-      replays = written-replays in0 in1 out0 out1 _ said end run c.in-Ok.ensures.all;
+      replays = written-replays c.args.form in0 in1 out0 out1 _ said end run c.in-Ok.ensures.all;
       reads = run.reads;
-      writes = written-faults in0 in1 out0 out1 _ said end run c.in-Ok.ensures.all;
-      holds = written-holds in0 out0 out1 _ said c.args.rig.now c.run_all.new.rig end log c.in-Ok.ensures.all;
+      writes = written-faults c.args.form in0 in1 out0 out1 _ said end run c.in-Ok.ensures.all;
+      holds = written-holds c.args.form in0 out0 out1 _ said c.args.rig.now c.run_all.new.rig end log c.in-Ok.ensures.all;
       synced = log.synced;
       starved = log.starved;
     }
@@ -33,16 +33,16 @@ returns g c =
     let out1 = g.O.Sink.outgoing c.run_all.new.out in
     let said = c.run_all.new.said in
     let end = c.end_of-end.result in
-    let run = subst (λ (e : ReplayEnd). HasRun in0 in1 out0 out1 said e) (sym c.end_of-end.ensures) c.run_all.ensures.run in
-    let log = subst (λ (e : ReplayEnd). HasLogged in0 out0 out1 said c.args.rig.now c.run_all.new.rig e) (sym c.end_of-end.ensures) c.run_all.ensures.log in
+    let run = subst (λ (e : ReplayEnd). HasRun c.args.form in0 in1 out0 out1 said e) (sym c.end_of-end.ensures) c.run_all.ensures.run in
+    let log = subst (λ (e : ReplayEnd). HasLogged c.args.form in0 out0 out1 said c.args.rig.now c.run_all.new.rig e) (sym c.end_of-end.ensures) c.run_all.ensures.log in
     let failed = c.in-Err.ensures.failed in
     let some = c.in-Err.ensures.some in
-    let safe = failed-synced in0 out0 out1 said c.args.rig.now c.run_all.new.rig end log in
+    let safe = failed-synced c.args.form in0 out0 out1 said c.args.rig.now c.run_all.new.rig end log in
     rw c.unwritten.ensures (record {
-      replays = failed-replays in0 in1 out0 out1 _ said end run failed some;
-      reads = failed-reads in0 in1 out0 out1 said end run some;
-      writes = failed-writes in0 in1 out0 out1 _ said end run failed some;
-      holds = failed-holds in0 in1 out0 out1 _ said c.args.rig.now c.run_all.new.rig end run log failed some;
+      replays = failed-replays c.args.form in0 in1 out0 out1 _ said end run failed some;
+      reads = failed-reads c.args.form in0 in1 out0 out1 said end run some;
+      writes = failed-writes c.args.form in0 in1 out0 out1 _ said end run failed some;
+      holds = failed-holds c.args.form in0 in1 out0 out1 _ said c.args.rig.now c.run_all.new.rig end run log failed some;
       synced = safe.0;
       starved = safe.1;
     })

@@ -1,7 +1,22 @@
-use Rattle.machine.proofs.StepLemmas.{registers}
+use Rattle.std.proofs.Common.{◌∙◌, ap, subst, sym}
+use Rattle.run_model.specs.Machine.{Accepts, step}
 use Rattle.machine.proofs.machine.Machine.step.Goals as goal
 
-pub returns-in-Register : goal.returns-in-Register
-returns-in-Register c =
-    rw (registers c.args.self c.advance.new.self c.count_input.new.self c.args.input c.in-Register.at c.at.result c.in-Register.app c.in-Register.is c.at.ensures c.advance.ensures c.count_input.ensures)
-    c.take_registration.ensures
+pub step-requires-clause-ready : goal.step-requires-clause-ready
+step-requires-clause-ready g c = c.self.invariant
+
+pub step-requires-clause-accepted : goal.step-requires-clause-accepted
+step-requires-clause-accepted g c =
+    subst (λ s. Accepts s c.args.input) (sym c.self.view_is) c.requires.accepted
+
+pub step-requires-clause-ranges : goal.step-requires-clause-ranges
+step-requires-clause-ranges g c = c.requires.ranges
+
+pub returns : goal.returns
+returns g c = (
+  c.in_ok-outs.ensures.state ∙ ap (λ s. (step s c.args.input).state) c.self.view_is,
+  c.in_ok-outs.ensures.outs ∙ ap (λ s. (step s c.args.input).outs) c.self.view_is,
+)
+
+pub invariant_of-result : goal.invariant_of-result
+invariant_of-result g c = c.in_ok-outs.ensures.ready

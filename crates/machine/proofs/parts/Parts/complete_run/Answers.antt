@@ -1,0 +1,13 @@
+use Rattle.run_model.specs.State.{live_run}
+use Rattle.machine.specs.View.{state_of}
+use Rattle.machine.proofs.HeldMaking.{on-ok}
+use Rattle.machine.proofs.Told.{held-completed}
+use Rattle.machine.proofs.parts.Parts.complete_run.Goals as goal
+
+pub returns : goal.returns
+returns c =
+    let m = c.args.self.now in
+    on-ok c.tell_parent.result _ _
+    (λ told. held-completed m c.end_run.new.self c.tell_parent.new.self (live_run c.args.run (state_of m))
+    c.args.output.now _ _ c.in_ok-parent.ensures.parent c.in_ok-result.ensures c.in_ok-parent.ensures.now told)
+    c.tell_parent.ensures

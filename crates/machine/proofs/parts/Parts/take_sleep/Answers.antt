@@ -1,0 +1,6 @@
+use Rattle.machine.proofs.HeldTime.{held-sleeps}
+use Rattle.machine.proofs.parts.Parts.take_sleep.Goals as goal
+
+pub returns-clause-now : goal.returns-clause-now
+returns-clause-now c =
+    held-sleeps c.args.self.now c.args.number c.remove.new.self c.remove.ensures.left c.requires.held
