@@ -1,5 +1,5 @@
 -- The machine before its first input is ready for it.
-use Rattle.std.proofs.Common.{◌≡◌, ◌≢◌, ℕ, ◌<◌, ◌≤◌, ◌-◌, ◌^◌, List, [], map, length, take, refl, sym, ap, ◌∙◌, arith, subst}
+use Rattle.std.proofs.Common.{◌≡◌, ◌≢◌, ◌<◌, ◌≤◌, ◌-◌, ◌^◌, List, [], map, length, take, sym, ap, ◌∙◌, arith, subst}
 use Rattle.std.specs.List.{AllByRecursion}
 use Rattle.std.specs.List.Sorted.{IsStrictlySortedBy}
 use Rattle.std.specs.Ordering.{nat_cmp}
@@ -12,7 +12,7 @@ use Rattle.run_model.specs.Sound.{ArePairwise}
 use Rattle.run_model.specs.State.{State, Run, Issue, EndedRun, empty, kept}
 use Rattle.run_model.proofs.Apart.{apart-fold}
 use Rattle.run_model.proofs.FitSteps.{fit-empty}
-use Rattle.machine.specs.Held.{IsAtRest, IsClosing, IsHeld, IsReady}
+use Rattle.machine.specs.Held.{IsClosing, IsHeld, IsReady}
 use Rattle.machine.specs.Numbers.{nothing}
 use Rattle.machine.specs.View.{state_of}
 use Rattle.machine.specs.declared.loose.Loose.{Loose}

@@ -1,9 +1,9 @@
 -- The parts after a step invokes a function.
-use Rattle.std.proofs.Common.{◌≡◌, ℕ, ◌+◌, ◌<◌, ◌≤◌, ◌==◌, Bool, true, false, not, cond, List, [], ◌∷◌, ◌++◌, find, Option, Some, None, option_map, refl, sym, ap, ◌∙◌, arith, subst, eqb-true}
+use Rattle.std.proofs.Common.{◌≡◌, ℕ, ◌+◌, ◌<◌, ◌≤◌, List, Option, refl, sym, arith, subst}
 use Rattle.std.specs.List.{AllByRecursion}
 use Rattle.awaited.specs.declared.entries.Invocation.{Invocation}
 use Rattle.kinds.specs.declared.reply.Time.{Time}
-use Rattle.lists.proofs.Elements.{all-last, all-weaker}
+use Rattle.lists.proofs.Elements.{all-last}
 use Rattle.run_model.specs.Fit.{IsFit}
 use Rattle.run_model.specs.State.{State}
 use Rattle.run_model.proofs.FitCounts.{fit-entries, fit-times}

@@ -10,7 +10,7 @@ use Rattle.kinds.specs.declared.store.Item.{Item}
 use Rattle.lists.proofs.Elements.{all-weaker}
 use Rattle.run_model.specs.Fit.{IsItemFit, IsRunFit}
 use Rattle.run_model.specs.Making.{is_item_of, new_item, queue_new, step_target}
-use Rattle.run_model.specs.State.{State, Run, Issue, live_run}
+use Rattle.run_model.specs.State.{Run, Issue, live_run}
 use Rattle.run_model.proofs.FitRuns.{fit-new, start-unless}
 use Rattle.run_model.proofs.Members.{in-all, in-found}
 use Rattle.machine.specs.Held.{AreWantsNoted, Becomes, IsHeld, is_left}

@@ -1,8 +1,6 @@
 -- The parts after operations: names, what waits, and what follows for those behind them.
-use Rattle.std.proofs.Common.{◌≡◌, ℕ, ◌+◌, ◌<◌, ◌≤◌, ◌==◌, Bool, true, false, not, cond, ◌&&◌, ◌||◌, List, [], ◌∷◌, ◌++◌, find, codes, Option, Some, None, Result, Ok, Err, IfOk, option_map, nat_le, refl, sym, ap, ◌∙◌, arith, subst, eqb-true}
+use Rattle.std.proofs.Common.{◌≡◌, ℕ, ◌+◌, ◌<◌, ◌≤◌, ◌==◌, Bool, true, false, not, cond, ◌&&◌, ◌||◌, List, [], ◌∷◌, ◌++◌, Option, Some, None, Result, Ok, Err, IfOk, option_map, nat_le, refl, sym, ap, ◌∙◌, arith, subst, eqb-true}
 use Rattle.std.specs.List.{AllByRecursion, list_any}
-use Rattle.std.proofs.lemmas.Bool.Decides.{nat_tests}
-use Rattle.kinds.specs.ErrorObject.{error_object}
 use Rattle.kinds.specs.RunSteps.{Noting, adds, known, full, keep_step, note_pending, note_plan}
 use Rattle.kinds.specs.declared.reply.Op.{Op}
 use Rattle.kinds.specs.declared.reply.Op.TheVariants as op
@@ -12,8 +10,8 @@ use Rattle.kinds.specs.declared.store.Pending.{Pending}
 use Rattle.kinds.specs.declared.store.Pending.TheVariants as pending
 use Rattle.awaited.specs.declared.entries.Sleep.{Sleep}
 use Rattle.lists.proofs.Elements.{all-last, all-weaker}
-use Rattle.runs.specs.Changes.{changed, if_new, keep_in, naming_in, naming_of, pend_in, plan_in, record_in, with_pending, with_plan}
-use Rattle.runs.specs.Runs.{RunLists, run_number}
+use Rattle.runs.specs.Changes.{changed, if_new, keep_in, naming_in, naming_of, pend_in, plan_in, with_pending, with_plan}
+use Rattle.runs.specs.Runs.{RunLists}
 use Rattle.runs.specs.declared.naming.Naming.{Naming}
 use Rattle.runs.specs.declared.naming.Naming.TheVariants.{New, Known, Full}
 use Rattle.run_model.specs.Fit.{IsFit, IsRunFit, IsWaitFit}
@@ -29,7 +27,7 @@ use Rattle.run_model.proofs.Members.{in-all, in-found}
 use Rattle.run_model.proofs.SettlingLists.{find-map, found-passes}
 use Rattle.machine.specs.Held.{AreWantsNoted, Becomes, IsHeld, is_left}
 use Rattle.machine.specs.Numbers.{has_number}
-use Rattle.machine.specs.Operations.{at_run, early_by, early_taken, effect_of, error_taken, first_at, is_again, new_wait, note_of, plan_at, sleep_at, slept, stops, taken_again, taken_by, taken_of, too_many_steps, wait_at, waited}
+use Rattle.machine.specs.Operations.{at_run, early_by, early_taken, effect_of, first_at, is_again, new_wait, note_of, plan_at, sleep_at, slept, stops, taken_again, taken_by, taken_of, too_many_steps, wait_at, waited}
 use Rattle.machine.specs.View.{state_of}
 use Rattle.machine.specs.Words.{fail_at, queue_at, retries_at}
 use Rattle.machine.specs.declared.counts.Counts.{Counts}

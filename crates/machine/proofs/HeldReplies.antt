@@ -1,9 +1,9 @@
 -- The parts after a call is open no more, and after an item is queued again.
-use Rattle.std.proofs.Common.{◌≡◌, ◌≢◌, ℕ, ◌≤◌, ◌==◌, Bool, true, false, not, cond, ◌&&◌, ◌||◌, List, [], ◌∷◌, filter, find, Option, Some, None, refl, sym, ap, ◌∙◌, arith, subst, eqb-true}
+use Rattle.std.proofs.Common.{◌≡◌, ◌≢◌, ℕ, ◌==◌, Bool, true, false, not, cond, ◌&&◌, ◌||◌, List, [], ◌∷◌, find, Option, Some, None, refl, sym, ap, ◌∙◌, arith, subst, eqb-true}
 use Rattle.std.specs.Prelude.{is_some}
 use Rattle.std.specs.List.{AllByRecursion, list_any}
 use Rattle.admission.specs.Admission.{Admission}
-use Rattle.admission.specs.Issues.{call_of, has_call, without_call}
+use Rattle.admission.specs.Issues.{has_call, without_call}
 use Rattle.kinds.specs.Queue.{insert_item}
 use Rattle.kinds.specs.declared.reply.After.{After}
 use Rattle.kinds.specs.declared.reply.After.TheVariants as after
@@ -29,7 +29,6 @@ use Rattle.machine.specs.Operations.{taken_of}
 use Rattle.machine.specs.Replies.{lacks, ops_at, outcome_at}
 use Rattle.machine.specs.View.{state_of}
 use Rattle.machine.specs.Words.{item_in}
-use Rattle.machine.specs.declared.loose.Loose.{Loose}
 use Rattle.machine.specs.declared.operations.Taken.TheVariants.{GoesOn, Again, Stops}
 use Rattle.machine.specs.declared.parts.Parts.{Parts}
 use Rattle.machine.proofs.HeldEvents.{untouched}

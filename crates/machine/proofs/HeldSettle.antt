@@ -1,8 +1,6 @@
 -- The parts after a call is made, and after all calls that may be made are.
-use Rattle.std.proofs.Common.{◌≡◌, ◌≢◌, ℕ, zero, suc, ◌+◌, ◌<◌, ◌≤◌, ◌==◌, Bool, true, false, not, cond, ◌&&◌, ◌||◌, List, [], ◌∷◌, ◌++◌, append-nil, filter, find, length, take, ◌-◌, Option, Some, None, bytes_eq, refl, sym, ap, ◌∙◌, arith, subst, eqb-true}
+use Rattle.std.proofs.Common.{◌≡◌, ◌≢◌, ℕ, zero, suc, ◌+◌, ◌<◌, ◌≤◌, ◌==◌, Bool, true, false, not, cond, ◌&&◌, ◌||◌, List, [], ◌∷◌, ◌++◌, append-nil, find, length, take, ◌-◌, Option, Some, None, bytes_eq, refl, sym, ap, ◌∙◌, arith, subst, eqb-true}
 use Rattle.std.specs.List.{AllByRecursion, list_any}
-use Rattle.std.specs.List.Sorted.{IsStrictlySortedBy}
-use Rattle.std.proofs.lemmas.Bool.{cond-false}
 use Rattle.std.proofs.lemmas.Bool.Decides.{nat_tests}
 use Rattle.std.proofs.lemmas.List.Folds.{list_any-append}
 use Rattle.std.proofs.lemmas.Option.{same_Some}
@@ -19,11 +17,11 @@ use Rattle.lists.proofs.Elements.{all-weaker}
 use Rattle.lists.proofs.Keyed.{filter_none}
 use Rattle.lists.proofs.Texts.{bytes_flip}
 use Rattle.runs.specs.Changes.{called, changed}
-use Rattle.runs.specs.Runs.{RunLists, run_number}
+use Rattle.runs.specs.Runs.{RunLists}
 use Rattle.run_model.specs.Fit.{AreDifferent, HasOwnNumbers, IsIssueFit, IsRunFit}
 use Rattle.run_model.specs.Making.{is_item_of, step_target}
-use Rattle.run_model.specs.Settle.{Settled, call_found, issue, issue_found, issue_of, item_at, next_issued, settle, settle_by}
-use Rattle.run_model.specs.State.{State, Run, Issue, EndedRun, has_open_call, live_run}
+use Rattle.run_model.specs.Settle.{Settled, issue, issue_found, issue_of, item_at, next_issued, settle, settle_by}
+use Rattle.run_model.specs.State.{State, Run, Issue, EndedRun, live_run}
 use Rattle.run_model.proofs.Apart.{all-none, apart-issue, not-same, pairs-last}
 use Rattle.run_model.proofs.FitSteps.{fit-issue}
 use Rattle.run_model.proofs.Members.{in-all, in-found}

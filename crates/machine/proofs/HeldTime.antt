@@ -1,10 +1,8 @@
 -- The parts as time goes on, and as what is awaited goes.
-use Rattle.std.proofs.Common.{◌≡◌, ◌≢◌, ℕ, ◌≤◌, ◌==◌, Bool, true, false, not, cond, ◌||◌, List, [], ◌∷◌, filter, find, codes, Option, Some, None, inl, inr, refl, sym, ap, ◌∙◌, subst, eqb-true, eq-eqb}
+use Rattle.std.proofs.Common.{◌≡◌, ℕ, ◌≤◌, ◌==◌, Bool, true, false, not, cond, ◌||◌, List, [], ◌∷◌, find, Some, None, refl, sym, ap, ◌∙◌, subst, eqb-true}
 use Rattle.std.specs.List.{AllByRecursion, list_any}
-use Rattle.std.specs.Option.{option_map}
 use Rattle.admission.specs.Admission.{Admission}
-use Rattle.awaited.specs.Entries.{invocation_number, sleep_number, waiting_number, wait_step}
-use Rattle.awaited.specs.declared.entries.WaitStep.{WaitStep}
+use Rattle.awaited.specs.Entries.{invocation_number, sleep_number}
 use Rattle.functions.specs.declared.entry.FunctionEntry.{FunctionEntry}
 use Rattle.kinds.specs.Cells.{later_starts}
 use Rattle.kinds.specs.Moments.{last_moment}
@@ -15,20 +13,18 @@ use Rattle.kinds.specs.declared.seen.SeenEntry.{SeenEntry}
 use Rattle.kinds.specs.declared.store.Rule.{Rule}
 use Rattle.kinds.specs.declared.window.Window.{Window}
 use Rattle.lists.proofs.Elements.{all-weaker}
-use Rattle.lists.proofs.Keyed.{cond_none, filter_none}
-use Rattle.lists.specs.Entries.{AreApart, has, without}
-use Rattle.run_model.specs.Advance.{make_found, without_invocation, without_rule, without_sleep, without_window}
-use Rattle.run_model.specs.State.{State, Run, EventText, Invocation, Sleep, at_moment, is_in}
+use Rattle.lists.proofs.Keyed.{filter_none}
+use Rattle.lists.specs.Entries.{AreApart, without}
+use Rattle.run_model.specs.Advance.{without_invocation, without_rule, without_sleep, without_window}
+use Rattle.run_model.specs.State.{Run, EventText, Invocation, Sleep, at_moment, is_in}
 use Rattle.run_model.proofs.FitCounts.{fit-moment}
 use Rattle.run_model.proofs.FitRuns.{fit-invocations, fit-rules, fit-sleeps}
 use Rattle.run_model.proofs.FitSteps.{fit-arrived}
 use Rattle.run_model.proofs.FitWindows.{fit-windows_left}
-use Rattle.run_model.proofs.Members.{any-in, in-all}
 use Rattle.machine.specs.Advance.{Arrives, moved}
-use Rattle.machine.specs.Held.{AreEndsRight, AreEventsRight, AreVersionsRight, Becomes, IsEventRight, IsHeld, is_event_named, is_event_used, is_version_in_use}
+use Rattle.machine.specs.Held.{AreEndsRight, AreEventsRight, AreVersionsRight, Becomes, IsEventRight, IsHeld, is_event_used, is_version_in_use}
 use Rattle.machine.specs.Numbers.{AreJoined, IsJoined, IsTouched, has_number}
 use Rattle.machine.specs.View.{state_of}
-use Rattle.machine.specs.Words.{make_at}
 use Rattle.machine.specs.declared.loose.Loose.{Loose}
 use Rattle.machine.specs.declared.parts.Parts.{Parts}
 use Rattle.machine.proofs.HeldEvents.{untouched}

@@ -1,5 +1,5 @@
 -- Words one after the other.
-use Rattle.std.proofs.Common.{◌≡◌, ◌∙◌, ap, refl, sym, subst}
+use Rattle.std.proofs.Common.{◌∙◌, ap, refl}
 use Rattle.run_model.specs.State.{State}
 use Rattle.machine.specs.Held.{Becomes, IsHeld}
 use Rattle.machine.specs.View.{state_of}

@@ -1,6 +1,5 @@
 -- What is awaited is over: it goes, its step is recorded, and what comes next is found out.
-use Rattle.std.proofs.Common.{◌≡◌, ℕ, ◌==◌, List, [], ◌∷◌, filter, find, codes, Option, Some, None, refl, sym, ap, ◌∙◌, subst, eqb-true}
-use Rattle.std.specs.List.{AllByRecursion}
+use Rattle.std.proofs.Common.{◌≡◌, ℕ, List, find, codes, Option, Some, None, refl, sym, ap, ◌∙◌, subst, eqb-true}
 use Rattle.std.specs.Option.{option_map}
 use Rattle.awaited.specs.Entries.{invocation_number, sleep_number, wait_step, waiting_number}
 use Rattle.awaited.specs.declared.entries.WaitStep.{WaitStep}
@@ -11,7 +10,7 @@ use Rattle.kinds.specs.Windows.{fired}
 use Rattle.kinds.specs.declared.store.Fired.{Fired}
 use Rattle.kinds.specs.declared.window.Window.{Window}
 use Rattle.lists.proofs.Keyed.{filter_none}
-use Rattle.lists.specs.Entries.{AreApart, has, without}
+use Rattle.lists.specs.Entries.{AreApart, has}
 use Rattle.run_model.specs.Advance.{make_found, timed_out, without_invocation, without_sleep, without_window}
 use Rattle.run_model.specs.Events.{without_wait}
 use Rattle.run_model.specs.Fit.{AreGiven, IsWindowFit}

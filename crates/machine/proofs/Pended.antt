@@ -13,13 +13,13 @@ use Rattle.std.specs.List.{AllByRecursion}
 use Rattle.std.specs.List.Sorted.{IsStrictlySortedBy}
 use Rattle.std.specs.Option.{option_map}
 use Rattle.std.proofs.lemmas.Map.Keys.{sorted_head, sorted_tail}
-use Rattle.kinds.specs.RunSteps.{RunSteps, Noting, adds, known, full, is_pending, is_planned, is_recorded, note_pending, pend_step, record_step, with_room}
+use Rattle.kinds.specs.RunSteps.{RunSteps, Noting, known, is_pending, is_planned, is_recorded, note_pending, pend_step, record_step, with_room}
 use Rattle.kinds.specs.declared.store.Pending.{Pending}
 use Rattle.lists.proofs.Elements.{all-weaker}
 use Rattle.lists.proofs.Keyed.{cond_none}
 use Rattle.runs.specs.Changes.{changed, is_pending_in, naming_of, record_in, result_for, with_pending}
 use Rattle.runs.specs.Runs.{Run, run_number}
-use Rattle.runs.specs.declared.naming.Naming.TheVariants.{New, Known, Full}
+use Rattle.runs.specs.declared.naming.Naming.TheVariants.{New}
 use Rattle.run_model.specs.Recording.{change_run, record_result, without_item}
 use Rattle.run_model.specs.State.{State, live_run}
 use Rattle.run_model.proofs.SettlingLists.{find-map, found-passes}

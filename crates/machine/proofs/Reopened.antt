@@ -1,8 +1,8 @@
 -- No call is open any more: each item is queued again, one call after the other.
-use Rattle.std.proofs.Common.{◌≡◌, ℕ, zero, suc, ◌<◌, ◌≤◌, ◌==◌, Bool, true, false, cond, List, [], ◌∷◌, ◌++◌, map, drop, find, length, slice_get, Option, Some, None, option_map, refl, sym, ap, ◌∙◌, arith, subst, eqb-true}
+use Rattle.std.proofs.Common.{◌≡◌, ℕ, ◌<◌, ◌==◌, Bool, true, false, List, [], ◌∷◌, drop, length, slice_get, Option, Some, None, option_map, refl, sym, ap, ◌∙◌, arith, subst, eqb-true}
 use Rattle.std.specs.List.{AllByRecursion}
 use Rattle.admission.specs.Admission.{Admission}
-use Rattle.admission.specs.Issues.{call_of, without_call}
+use Rattle.admission.specs.Issues.{call_of}
 use Rattle.admission.proofs.CallLemmas.{first_found}
 use Rattle.kinds.specs.Cells.{IsStart}
 use Rattle.kinds.specs.Moments.{last_moment}
@@ -10,25 +10,24 @@ use Rattle.kinds.specs.Queue.{insert_item}
 use Rattle.kinds.specs.RunSteps.{is_recorded}
 use Rattle.kinds.specs.declared.store.Item.{Item}
 use Rattle.run_model.specs.Fit.{HasOwnNumbers, IsAside, IsIssueFit, IsItemFit, item_of}
-use Rattle.run_model.specs.Machine.{reopen, requeue_all, requeue_found, requeue_run}
+use Rattle.run_model.specs.Machine.{reopen, requeue_all, requeue_found}
 use Rattle.run_model.specs.Making.{discover, queue}
 use Rattle.run_model.specs.Recording.{change_run}
-use Rattle.run_model.specs.Replies.{close, want}
-use Rattle.run_model.specs.State.{State, Run, Issue, live_run, open_issue}
+use Rattle.run_model.specs.Replies.{want}
+use Rattle.run_model.specs.State.{State, Run, Issue, live_run}
 use Rattle.run_model.proofs.Apart.{Beside, apart-steps}
 use Rattle.run_model.proofs.FitRuns.{fit-queue}
-use Rattle.run_model.proofs.KeptSteps.{kept-requeue_found}
+use Rattle.run_model.proofs.KeptSteps.{acted-requeue_found, acts-of}
 use Rattle.run_model.proofs.SettlingLists.{found-passes}
 use Rattle.machine.specs.Held.{Becomes, IsHeld}
 use Rattle.machine.specs.Numbers.{IsJoined}
 use Rattle.machine.specs.Steps.{due_now, first_item, without_first}
 use Rattle.machine.specs.View.{state_of}
-use Rattle.machine.specs.declared.loose.Loose.{Loose}
 use Rattle.machine.specs.declared.parts.Parts.{Parts}
 use Rattle.machine.proofs.Fired.{calls-apart}
 use Rattle.machine.proofs.HeldMaking.{wants-queued}
 use Rattle.machine.proofs.HeldReplies.{held-close}
-use Rattle.machine.proofs.HeldWords.{becomes-same, becomes-then}
+use Rattle.machine.proofs.HeldWords.{becomes-same}
 
 -- ## A call goes
 
@@ -193,7 +192,8 @@ module _ (first m : Parts) (h : IsReopening first m) where
           same = turn m.admission.issues refl is_first (state_of new) now ∙ h.same;
           held = b.held;
           apart = subst HasOwnNumbers (sym now)
-              (kept-requeue_found last_moment (λ _. Unit {0}) Beside (apart-steps last_moment) item []
+              (acted-requeue_found (λ _. Unit {0}) Beside
+              (acts-of last_moment (λ _. Unit {0}) Beside (apart-steps last_moment)) item []
               (live_run item.run (state_of m)) (without_first (state_of m)) refl beside-taken);
           clock = b.clock ∙ left.clock ∙ h.clock;
         }

@@ -1,5 +1,5 @@
 -- What a reply and a failed call do, by what is asked of the state.
-use Rattle.std.proofs.Common.{◌≡◌, ℕ, ◌==◌, Bool, true, false, not, cond, ◌&&◌, ◌||◌, List, [], ◌∷◌, filter, find, length, codes, Option, Some, None, nat_le, nat_lt, arith, refl, sym, ap, ◌∙◌, subst, eqb-true}
+use Rattle.std.proofs.Common.{◌≡◌, ℕ, ◌==◌, Bool, true, false, not, cond, ◌&&◌, ◌||◌, List, [], ◌∷◌, find, length, codes, Option, Some, None, nat_le, nat_lt, arith, refl, sym, ap, ◌∙◌, subst, eqb-true}
 use Rattle.std.specs.Prelude.{is_some}
 use Rattle.std.specs.List.{list_any}
 use Rattle.std.proofs.lemmas.Bool.Decides.{nat_tests}
@@ -18,7 +18,7 @@ use Rattle.sdk_reply.specs.Outcome.{outcome_of}
 use Rattle.run_model.specs.Fit.{HasOwnNumbers, IsAside, IsFit}
 use Rattle.run_model.specs.Making.{discover, queue}
 use Rattle.run_model.specs.Recording.{change_run}
-use Rattle.run_model.specs.Replies.{Taking, after_found, again, begun, close, fail_call, fail_found, finished, is_idle, lacks_target, moved_nothing, noted, on_call_failed, on_error, on_reply, reply_found, retries_of, retry, retry_found, retry_run, take_found, take_named, take_operation, take_operations, take_ops, take_reply, want}
+use Rattle.run_model.specs.Replies.{Taking, after_found, again, begun, close, fail_found, finished, lacks_target, moved_nothing, noted, on_call_failed, on_error, on_reply, reply_found, retries_of, retry, retry_found, retry_run, take_found, take_named, take_operation, take_operations, take_reply, want}
 use Rattle.run_model.specs.State.{State, Run, Issue, live_run, open_issue}
 use Rattle.run_model.proofs.Apart.{aside-closed}
 use Rattle.run_model.proofs.FitSteps.{keeps-fit}
@@ -28,7 +28,6 @@ use Rattle.run_model.proofs.SettlingLists.{found-passes}
 use Rattle.machine.specs.Operations.{taken_by, taken_of}
 use Rattle.machine.specs.Replies.{idle_at, is_called, is_resting, next_by, next_of, ops_at, outcome_at}
 use Rattle.machine.specs.Words.{complete_at, fail_at, item_in}
-use Rattle.machine.specs.declared.operations.Taken.{Taken}
 use Rattle.machine.specs.declared.operations.Taken.TheVariants.{GoesOn, Again, Stops}
 use Rattle.machine.specs.declared.replies.Next.{Next}
 use Rattle.machine.specs.declared.replies.Next.TheVariants as next

@@ -1,5 +1,5 @@
 -- A step, one part after the other.
-use Rattle.std.proofs.Common.{◌≡◌, ℕ, zero, suc, ◌+◌, ◌<◌, ◌≤◌, ◌^◌, Bool, true, false, cond, List, [], ◌∷◌, ◌++◌, map, find, length, max, min, nat_le, Option, Some, None, Result, Ok, Err, OnOk, refl, sym, ap, ◌∙◌, arith, subst}
+use Rattle.std.proofs.Common.{◌≡◌, ℕ, zero, suc, ◌+◌, ◌<◌, ◌≤◌, ◌^◌, Bool, true, false, List, [], ◌∷◌, ◌++◌, map, length, max, min, nat_le, Option, Some, None, Result, Ok, Err, OnOk, refl, sym, ap, ◌∙◌, arith, subst}
 use Rattle.std.proofs.lemmas.Bool.Decides.{nat_tests}
 use Rattle.std.proofs.lemmas.List.{append-nil, append_assoc}
 use Rattle.kinds.specs.Inputs.{reading}
@@ -15,9 +15,9 @@ use Rattle.kinds.specs.declared.store.Item.{Item}
 use Rattle.lists.proofs.Keyed.{cond_none}
 use Rattle.run_model.specs.Advance.{Advanced, advance}
 use Rattle.run_model.specs.Events.{add_event, event_with}
-use Rattle.run_model.specs.Machine.{Accepts, act, count_input, refusal_by_kind, reopen, requeue_all, requeue_found, spent, step}
+use Rattle.run_model.specs.Machine.{Accepts, act, count_input, refusal_by_kind, requeue_all, requeue_found, spent, step}
 use Rattle.run_model.specs.Making.{queue}
-use Rattle.run_model.specs.Recording.{Discovery, at_once, change_run}
+use Rattle.run_model.specs.Recording.{at_once, change_run}
 use Rattle.run_model.specs.Replies.{want}
 use Rattle.run_model.specs.Requests.{cancel_found, on_events, remember}
 use Rattle.run_model.specs.Settle.{Settled, call_found, issue_found, issue_of, item_at, next_issued, settle, settle_by}
@@ -34,7 +34,6 @@ use Rattle.machine.specs.Advance.{hang}
 use Rattle.machine.specs.Held.{Becomes, IsHeld}
 use Rattle.machine.specs.View.{state_of}
 use Rattle.machine.specs.Words.{answering, cancel_at, with_outs}
-use Rattle.machine.specs.declared.counts.Counts.{Counts}
 use Rattle.machine.specs.declared.parts.Parts.{Parts}
 
 -- ## The input counts

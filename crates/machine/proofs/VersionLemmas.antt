@@ -1,5 +1,5 @@
 -- Functions by version: what stays in order, and whose versions no other has.
-use Rattle.std.proofs.Common.{◌≡◌, ◌≢◌, ℕ, ◌⊎◌, inl, inr, ◌+◌, ◌<◌, ◌≤◌, ◌==◌, Bool, true, false, not, List, [], ◌∷◌, ◌++◌, filter, find, None, refl, sym, ap, ◌∙◌, subst, arith}
+use Rattle.std.proofs.Common.{◌≡◌, ◌≢◌, ℕ, ◌⊎◌, inl, inr, ◌+◌, ◌<◌, ◌≤◌, ◌==◌, Bool, true, false, not, List, [], ◌∷◌, ◌++◌, filter, refl, sym, ap, ◌∙◌, subst, arith}
 use Rattle.std.specs.BTreeMap.{insert_entry, is_at}
 use Rattle.std.specs.List.{AllByRecursion}
 use Rattle.std.specs.List.Sorted.{IsStrictlySortedBy}
@@ -13,10 +13,9 @@ use Rattle.kinds.specs.declared.function.Function.{Function}
 use Rattle.functions.specs.Functions.{new_in, numbered, registered, stays, version_of}
 use Rattle.functions.specs.declared.entry.FunctionEntry.{FunctionEntry}
 use Rattle.lists.specs.Entries.{insert_by}
-use Rattle.lists.proofs.Elements.{all-filter, all-weaker, filter-passes}
+use Rattle.lists.proofs.Elements.{all-weaker, filter-passes}
 use Rattle.lists.proofs.Stored.{IsStored, numbered_left, stored_empty, stored_put}
 use Rattle.run_model.specs.Laws.{IsIn}
-use Rattle.run_model.specs.Machine.{insert_all}
 use Rattle.run_model.proofs.Apart.{all-none}
 use Rattle.run_model.proofs.FitFunctions.{in-inserted}
 use Rattle.run_model.proofs.Members.{all-in, in-all, in-back, in-either, in-filter, in-front}

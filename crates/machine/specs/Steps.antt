@@ -1,5 +1,5 @@
 -- What a step does first, and what it does with the calls that were open.
-use Rattle.std.specs.Prelude.{List, drop, Option}
+use Rattle.std.specs.Prelude.{drop, Option}
 use Rattle.std.specs.List.{slice_get}
 use Rattle.std.specs.Option.{option_map}
 use Rattle.kinds.specs.declared.store.Item.{Item}

@@ -1,5 +1,4 @@
 -- What contracts see of the machine's parts: the documented state.
-use Rattle.std.specs.Prelude.{◌≡◌, ℕ, Option, Some, None, List}
 use Rattle.run_model.specs.State.{State}
 use Rattle.machine.specs.declared.parts.Parts.{Parts}
 

@@ -1,5 +1,5 @@
 -- The words of the documented machine, of a run that may not be there: then nothing happens.
-use Rattle.std.specs.Prelude.{ℕ, ◌∷◌, ◌+◌, ◌&&◌, ◌++◌, not, Bool, true, false, List, [], map, filter, Option, Some, None}
+use Rattle.std.specs.Prelude.{ℕ, ◌+◌, ◌&&◌, ◌++◌, not, Bool, true, false, List, [], map, filter, Option, Some, None}
 use Rattle.event_texts.specs.Texts.{text_or_none}
 use Rattle.functions.specs.declared.entry.FunctionEntry.{FunctionEntry}
 use Rattle.kinds.specs.Seen.{note_seen}

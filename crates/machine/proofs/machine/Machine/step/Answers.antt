@@ -1,4 +1,5 @@
 use Rattle.std.proofs.Common.{◌∙◌, ap, subst, sym}
+use Rattle.std.proofs.lemmas.Result.{err_from_is_err_and}
 use Rattle.run_model.specs.Machine.{Accepts, step}
 use Rattle.machine.proofs.machine.Machine.step.Goals as goal
 
@@ -11,6 +12,11 @@ step-requires-clause-accepted g c =
 
 pub step-requires-clause-ranges : goal.step-requires-clause-ranges
 step-requires-clause-ranges g c = c.requires.ranges
+
+pub returns-in_err-outs : goal.returns-in_err-outs
+returns-in_err-outs g c =
+    let p = err_from_is_err_and c.from_residual.result c.from_residual.ensures.1 in
+    rw p.1 tt
 
 pub returns : goal.returns
 returns g c = (

@@ -1,4 +1,4 @@
-use Rattle.std.proofs.Common.{IfSome, subst}
+use Rattle.std.proofs.Common.{subst}
 use Rattle.machine.specs.Numbers.{IsRest}
 use Rattle.machine.proofs.Joined.{left-by, rest-by}
 use Rattle.machine.proofs.numbers.NumberSet.pop_first.Goals as goal

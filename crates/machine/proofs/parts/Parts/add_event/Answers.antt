@@ -1,8 +1,6 @@
-use Rattle.std.proofs.Common.{◌∙◌, ◌++◌, ◌∷◌, [], ap, refl, subst}
+use Rattle.std.proofs.Common.{◌∙◌, ap, refl, subst}
 use Rattle.intake.specs.Events.{event_text}
-use Rattle.event_texts.specs.Texts.{Texts}
 use Rattle.machine.specs.Numbers.{IsJoined}
-use Rattle.machine.specs.declared.parts.Parts.{Parts}
 use Rattle.machine.proofs.HeldEvents.{held-add_event, with-text}
 use Rattle.machine.proofs.parts.Parts.add_event.Goals as goal
 

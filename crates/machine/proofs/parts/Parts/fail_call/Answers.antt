@@ -1,6 +1,4 @@
 use Rattle.std.proofs.Common.{◌∙◌, sym}
-use Rattle.machine.specs.Held.{Becomes}
-use Rattle.machine.specs.View.{state_of}
 use Rattle.kinds.specs.ErrorObject.{error_object}
 use Rattle.machine.proofs.HeldMaking.{on-ok}
 use Rattle.machine.proofs.HeldReplies.{call-failed-then, failed-unknown, none-of, stands-aside}

@@ -1,6 +1,4 @@
 use Rattle.std.proofs.Common.{◌∙◌, sym}
-use Rattle.machine.specs.Held.{Becomes}
-use Rattle.machine.specs.View.{state_of}
 use Rattle.machine.proofs.HeldMaking.{on-ok}
 use Rattle.machine.proofs.HeldReplies.{call-answered, call-late, call-unknown, none-of, stands-aside}
 use Rattle.machine.proofs.parts.Parts.on_reply.Goals as goal

@@ -1,4 +1,4 @@
-use Rattle.std.proofs.Common.{◌∙◌, refl, subst, sym}
+use Rattle.std.proofs.Common.{◌∙◌, subst, sym}
 use Rattle.machine.specs.Held.{Becomes}
 use Rattle.machine.specs.View.{state_of}
 use Rattle.machine.specs.declared.replies.Next.TheVariants as next

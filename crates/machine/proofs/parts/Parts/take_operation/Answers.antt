@@ -1,5 +1,4 @@
 use Rattle.std.proofs.Common.{◌∙◌, sym}
-use Rattle.machine.specs.Held.{Becomes}
 use Rattle.runs.specs.declared.naming.Naming.TheVariants.{Full}
 use Rattle.machine.specs.View.{state_of}
 use Rattle.machine.proofs.HeldOperations.{gives-named, if-stops, is-early, operation-full, operation-known, operation-new}

@@ -1,4 +1,3 @@
-use Rattle.std.proofs.Common.{◌∙◌}
 use Rattle.machine.proofs.HeldRecording.{held-wake}
 use Rattle.machine.proofs.parts.Parts.wake.Goals as goal
 

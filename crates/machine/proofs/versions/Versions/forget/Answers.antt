@@ -1,4 +1,4 @@
-use Rattle.std.proofs.Common.{◌==◌, ◌∙◌, List, ap, filter, not}
+use Rattle.std.proofs.Common.{◌==◌, ◌∙◌, ap, filter, not}
 use Rattle.functions.specs.declared.entry.FunctionEntry.{FunctionEntry}
 use Rattle.machine.specs.Versions.{Versions}
 use Rattle.machine.proofs.VersionLemmas.{versioned-left}
