@@ -1,5 +1,5 @@
 -- The current functions stay, and so does the text of an event that has its number.
-use Rattle.std.proofs.Common.{◌≡◌, ℕ, ◌+◌, ◌≤◌, ◌==◌, List, Option, Some, None, ap, ◌∙◌, arith, eqb-true}
+use Rattle.std.proofs.Common.{◌≡◌, ℕ, ◌+◌, ◌≤◌, ◌==◌, List, find, Option, Some, None, ap, ◌∙◌, arith, eqb-true}
 use Rattle.intake.specs.Events.{event_text}
 use Rattle.kinds.specs.declared.event.EventIn.{EventIn}
 use Rattle.functions.specs.declared.entry.FunctionEntry.{FunctionEntry}
@@ -33,9 +33,15 @@ stays-accepted fs number found event (Some id) s h = (
   omega (arith, h.2),
 )
 
-pub keeps-stays : (fs : List FunctionEntry) (number : ℕ) (found : Option EventText) → Keeps (Stays fs number found)
-keeps-stays fs number found = freely (Stays fs number found) (record {
-  accepts = λ event id s new h. stays-accepted fs number found event id s h;
+-- what looks at these alone is kept where the events of requests keep it
+abbrev pub Sees : (List FunctionEntry → List EventText → ℕ → ℕ → Type 0) → State → Type 0
+Sees K s = K s.functions s.texts s.events s.moment
+
+pub keeps-seen : (K : List FunctionEntry → List EventText → ℕ → ℕ → Type 0)
+    → ((event : EventIn) (id : Option (List ℕ)) (s : State) → Sees K s
+    → Sees K (add_event (event_with event s) (remember id s))) → Keeps (Sees K)
+keeps-seen K accepts = freely (Sees K) (record {
+  accepts = λ event id s new h. accepts event id s h;
   starts = λ f event parent s there given h. h;
   fills = λ f r value event s may full h. h;
   fires = λ f w s there stands h. h;
@@ -57,6 +63,12 @@ keeps-stays fs number found = freely (Stays fs number found) (record {
   invocations_go = λ test s h. h;
   rules_go = λ test s h. h;
 })
+
+pub keeps-stays : (fs : List FunctionEntry) (number : ℕ) (found : Option EventText) → Keeps (Stays fs number found)
+keeps-stays fs number found =
+    keeps-seen (λ now texts events moment. (now ≡ fs)
+    × (find (λ (e : EventText). number == e.number) texts ≡ found) × (number ≤ events))
+    (stays-accepted fs number found)
 
 -- so it is the same event
 pub same-event : (number : ℕ) (name : List ℕ) (found : Option EventText) (s : State) → text_of number s ≡ found

@@ -26,7 +26,7 @@ use Rattle.run_model.specs.Fit.{HasOwnNumbers}
 use Rattle.run_model.proofs.Apart.{Beside, apart-step, apart-steps}
 use Rattle.run_model.proofs.FitCounts.{fit-rest}
 use Rattle.run_model.proofs.FitSteps.{moment-within}
-use Rattle.run_model.proofs.Kept.{Keeps, freely, kept-discover}
+use Rattle.run_model.proofs.Kept.{Keeps, kept-discover}
 use Rattle.run_model.proofs.KeptEvents.{kept-cancel_found, kept-on_events}
 use Rattle.run_model.proofs.KeptSteps.{goes-on, kept-act, kept-advance}
 use Rattle.run_model.proofs.KeptReplies.{KeepsCalls, dropping, kept-on_call_failed, kept-on_reply}
@@ -35,6 +35,7 @@ use Rattle.machine.specs.Held.{Becomes, IsHeld}
 use Rattle.machine.specs.View.{state_of}
 use Rattle.machine.specs.Words.{answering, cancel_at, with_outs}
 use Rattle.machine.specs.declared.parts.Parts.{Parts}
+use Rattle.machine.proofs.Staying.{keeps-seen}
 
 -- ## The input counts
 
@@ -133,29 +134,7 @@ at-accepted t event None s h = h
 at-accepted t event (Some id) s h = h
 
 keeps-at : (t : ℕ) → Keeps (At t)
-keeps-at t = freely (At t) (record {
-  accepts = λ event id s new h. at-accepted t event id s h;
-  starts = λ f event parent s there given h. h;
-  fills = λ f r value event s may full h. h;
-  fires = λ f w s there stands h. h;
-  joins = λ f r value event s may full h. h;
-  windows_go = λ number s h. h;
-  rules = λ r event c s there e h. h;
-  finds_out = λ r s there h. h;
-  wants = λ r s live h. h;
-  plans = λ r name s live new h. h;
-  sleeps = λ r name t s live new h. h;
-  waits = λ r name event t cond s live new h. h;
-  pends = λ r name s live new h. h;
-  invokes = λ r name child t s there h. h;
-  ends = λ r status s live h. h;
-}) (record {
-  records = λ run name result s h. h;
-  sleeps_go = λ test s h. h;
-  waits_go = λ test s h. h;
-  invocations_go = λ test s h. h;
-  rules_go = λ test s h. h;
-})
+keeps-at t = keeps-seen (λ functions texts events moment. moment ≡ t) (at-accepted t)
 
 calls-at : (t : ℕ) → KeepsCalls (λ is s. At t s)
 calls-at t = dropping (λ is s. At t s) (record {

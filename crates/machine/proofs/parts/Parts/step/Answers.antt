@@ -59,14 +59,5 @@ returns-clause-state g c =
 pub returns-clause-ready : goal.returns-clause-ready
 returns-clause-ready g c = record {
   rest = c.in_ok-tidy.ensures.rest;
-  apart = step-apart c.args.self.now c.tidy.new.self c.args.input
-      (whole-step c.args.self.now c.count_input.new.self c.args.input c.max-moment.result
-      (moment-is (state_of c.args.self.now) c.args.input c.at.result c.min.result c.max-moment.result
-      c.at.ensures c.min.ensures c.max-moment.ensures) c.count_input.ensures
-      c.advance.new.self c.in_ok-advance.ensures.now.state c.act.new.self c.settle.new.self c.tidy.new.self
-      c.advance.new.outs c.act.new.outs c.settle.new.outs
-      (c.in_ok-advance.ensures.outs ∙ ap (λ os. os ++ map hang
-      (advance c.max-moment.result (state_of c.count_input.new.self)).hangs) c.new-outs.ensures)
-      c.in_ok-act.ensures.state.state c.in_ok-act.ensures.outs c.in_ok-settle.ensures.state.state
-      c.in_ok-settle.ensures.outs c.in_ok-tidy.ensures.state).0 c.requires.ready.apart;
+  apart = step-apart c.args.self.now c.tidy.new.self c.args.input (returns-clause-state g c) c.requires.ready.apart;
 }
