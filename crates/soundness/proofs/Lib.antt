@@ -1,0 +1,4 @@
+pub mod Holding
+pub mod HoldingReplies
+pub mod HoldingSteps
+pub mod NamedThere
