@@ -30,6 +30,7 @@ use Rattle.run_model.specs.Replies.{Taking, add_sleep, add_wait, after_found, ag
 use Rattle.run_model.specs.Sound.{IfLive}
 use Rattle.run_model.specs.State.{State, Run, Issue, live_run, open_issue}
 use Rattle.run_model.proofs.FitEvents.{none-left}
+use Rattle.run_model.proofs.GoingOn.{Going}
 use Rattle.run_model.proofs.Kept.{Adds, IsFunction, IsLive, own-number}
 use Rattle.run_model.proofs.Members.{in-found, in-front}
 use Rattle.run_model.proofs.SettlingLists.{found-passes}
@@ -52,7 +53,7 @@ pub record HoldsCalls (O : List ℕ → Type 0) (K : List Item → Core → Type
   pub changes : Holds O K
   pub reads : (reply : ReplyIn) → IsNamedBy O (outcome_of reply)
   -- a call is open no more, or all aren't
-  pub closes : (i : Issue) (s : State) → IsIn i s.issues → K [] (core s)
+  pub closes : (i : Issue) (s : State) → Going [] s → IsIn i s.issues → K [] (core s)
       → K (i.item ∷ []) (core (close i.call s))
   pub reopens : (s : State) → K [] (core s) → K (map item_of s.issues) (core (record s { issues = [] }))
   -- an item that is aside goes, where nothing is left to be called
@@ -291,29 +292,29 @@ module _ (O : List ℕ → Type 0) (K : List Item → Core → Type 0) (keeps : 
   -- ## Replies and failures of calls
 
   holds-take_reply : (call : ℕ) (found : Option Issue) (reply : ReplyIn) (s : State)
-      → open_issue call s ≡ found → Q [] s → Q [] (take_reply found reply s)
-  holds-take_reply call None reply s e h = h
-  holds-take_reply call (Some i) reply s e h =
+      → Going [] s → open_issue call s ≡ found → Q [] s → Q [] (take_reply found reply s)
+  holds-take_reply call None reply s going e h = h
+  holds-take_reply call (Some i) reply s going e h =
       holds-reply_found (live_run i.item.run s) i.item reply (close i.call s) refl
-      (keeps.closes i s (in-found (has_call call) s.issues i e) h)
+      (keeps.closes i s going (in-found (has_call call) s.issues i e) h)
 
-  pub holds-on_reply : (call : ℕ) (reply : ReplyIn) (s : State) → Q [] s → Q [] (on_reply call reply s)
+  pub holds-on_reply : (call : ℕ) (reply : ReplyIn) (s : State) → Going [] s → Q [] s → Q [] (on_reply call reply s)
   unfolding on_reply
-  holds-on_reply call reply s h = holds-take_reply call (open_issue call s) reply s refl h
+  holds-on_reply call reply s going h = holds-take_reply call (open_issue call s) reply s going refl h
 
-  pub holds-fail_call : (i : Issue) (error : List ℕ) (s : State) → IsIn i s.issues → Q [] s
+  pub holds-fail_call : (i : Issue) (error : List ℕ) (s : State) → Going [] s → IsIn i s.issues → Q [] s
       → Q [] (fail_call i error s)
-  holds-fail_call i error s there h =
+  holds-fail_call i error s going there h =
       holds-discover O K keeps.changes [] (retry i.item after.None error (close i.call s))
-      (holds-retry i.item after.None error (close i.call s) (keeps.closes i s there h))
+      (holds-retry i.item after.None error (close i.call s) (keeps.closes i s going there h))
 
   holds-fail_found : (call : ℕ) (found : Option Issue) (error : List ℕ) (s : State)
-      → open_issue call s ≡ found → Q [] s → Q [] (fail_found found error s)
-  holds-fail_found call None error s e h = h
-  holds-fail_found call (Some i) error s e h =
-      holds-fail_call i error s (in-found (has_call call) s.issues i e) h
+      → Going [] s → open_issue call s ≡ found → Q [] s → Q [] (fail_found found error s)
+  holds-fail_found call None error s going e h = h
+  holds-fail_found call (Some i) error s going e h =
+      holds-fail_call i error s going (in-found (has_call call) s.issues i e) h
 
-  pub holds-on_call_failed : (call : ℕ) (s : State) → Q [] s → Q [] (on_call_failed call s)
+  pub holds-on_call_failed : (call : ℕ) (s : State) → Going [] s → Q [] s → Q [] (on_call_failed call s)
   unfolding on_call_failed
-  holds-on_call_failed call s h =
-      holds-fail_found call (open_issue call s) (error_object (codes "call failed")) s refl h
+  holds-on_call_failed call s going h =
+      holds-fail_found call (open_issue call s) (error_object (codes "call failed")) s going refl h

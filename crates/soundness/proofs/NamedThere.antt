@@ -34,7 +34,7 @@ use Rattle.run_model.specs.Events.{window_of}
 use Rattle.run_model.proofs.CallsOfRuns.{there-fold}
 use Rattle.run_model.proofs.FitRuns.{all-changed, all-inserted}
 use Rattle.run_model.proofs.FitWindows.{all-inserted_in, joined-version, opened-version}
-use Rattle.run_model.proofs.GoingOn.{Has, in-kept}
+use Rattle.run_model.proofs.GoingOn.{Has, going-empty, in-kept}
 use Rattle.run_model.proofs.Kept.{IsFunction, run_from, window_after, with_offer}
 use Rattle.run_model.proofs.Members.{any-in, each-in, in-all, in-back, in-either, in-found, in-front}
 use Rattle.run_model.proofs.SettlingLists.{all-append, or-left, or-right}
@@ -439,13 +439,13 @@ known-steps = record {
   calls = record {
     changes = known-changes;
     reads = λ reply. any-outcome (outcome_of reply);
-    closes = λ i s there h. h;
+    closes = λ i s going there h. h;
     reopens = λ s h. h;
     drops = λ i is s done h. h;
     leaves = λ i no_retry ops s has own over before h. h;
     queues = λ i j is r s run target live new h. h;
   };
-  issues = λ number i s there h.
+  issues = λ number i s going there h.
       known-changed (s.functions ++ s.retired) s.texts s.live s.closing s.windows i.run (called i.target) (λ q k. k)
       h;
   registers = known-registered;
@@ -473,7 +473,7 @@ function-there s version h = found-has (λ (f : FunctionEntry). version == f.ver
 pub named-fold : (limits : Limits) (inputs : List Input) → HasNamed (fold limits inputs)
 named-fold limits inputs =
     let s : State = fold limits inputs in
-    let h : K [] (core s) = holds-after Anything K known-steps inputs (empty limits)
+    let h : K [] (core s) = holds-after Anything K known-steps inputs (empty limits) (going-empty limits)
     (record { live_known = tt; closing_known = tt; windows_known = tt }) in
     let P : Run → Type 0 = λ (r : Run). HasFunction s r.version × HasTexts s r.events in
     record {

@@ -4,4 +4,4 @@
 
 mod named;
 
-pub use named::what_is_named_is_there;
+pub use named::{planned_steps_are_called_once, what_is_named_is_there};
