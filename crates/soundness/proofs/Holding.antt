@@ -1,7 +1,7 @@
 -- What is looked at of a state, and the ways in which it changes: a property of it that each of these keeps is kept by
--- each word of the definition. Other than where runs, events and windows are numbered only, an event's text is there
--- where it is offered, and operations name steps as the reader lets them. Here are the words of making, recording,
--- events and ends.
+-- each word of the definition. More is known here than in `Keeps` of `run_model`: an event's text is there where the
+-- event is offered, operations name steps as the reader lets them, and a call's item is left out only where its step is
+-- recorded. Here are the words of making, recording, events and ends.
 use Rattle.std.proofs.Common.{◌≡◌, ℕ, ◌+◌, ◌≤◌, ◌==◌, Bool, true, false, not, ◌&&◌, cond, List, [], ◌∷◌, ◌++◌, map, find, Option, Some, None, refl, arith, eq-eqb}
 use Rattle.std.specs.List.{AllByRecursion}
 use Rattle.kinds.specs.RunSteps.{is_pending, keep_step, note_pending, note_plan}
