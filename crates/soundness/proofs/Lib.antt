@@ -1,0 +1,11 @@
+pub mod Holding
+pub mod HoldingReplies
+pub mod HoldingSteps
+pub mod NamedThere
+pub mod CountedCalls
+pub mod PlannedNames
+pub mod PlannedCalls
+pub mod PlannedItems
+pub mod NamesRead
+pub mod ToldTargets
+pub mod PlannedOnce
