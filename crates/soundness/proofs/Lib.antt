@@ -1,0 +1,5 @@
+pub mod FreshRuns
+pub mod StepNames
+pub mod Turned
+pub mod TurnedSteps
+pub mod Work

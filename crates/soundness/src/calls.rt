@@ -1,0 +1,13 @@
+// What is called: in each state that is reached.
+ghost use Rattle.kinds.specs.declared.input.Input.{Input};
+ghost use Rattle.kinds.specs.declared.limits.Limits.{Limits};
+ghost use Rattle.run_model.specs.Machine.{fold};
+ghost use Rattle.run_model.specs.Sound.{IsFresh};
+ghost use Rattle.std.specs.List.{AllByRecursion};
+ghost use Rattle.std.specs.Prelude.{List};
+
+/// A run without a call so far has no step, neither recorded nor planned nor pending, and no open call.
+pub fn runs_without_a_call_are_fresh()
+    ensures { (limits : Limits) (inputs : List Input) →
+        AllByRecursion (IsFresh (fold limits inputs)) (fold limits inputs).live }
+{}

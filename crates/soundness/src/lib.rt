@@ -1,0 +1,7 @@
+//! Soundness of the documented machine: what holds of every state that it reaches. It has no code but laws: public
+//! functions with empty bodies.
+#![tactic(auto)]
+
+mod calls;
+
+pub use calls::runs_without_a_call_are_fresh;
