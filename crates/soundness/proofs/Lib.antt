@@ -1,4 +1,5 @@
 pub mod FreshRuns
+pub mod OneDiscovery
 pub mod StepNames
 pub mod Turned
 pub mod TurnedSteps

@@ -2,7 +2,7 @@
 ghost use Rattle.kinds.specs.declared.input.Input.{Input};
 ghost use Rattle.kinds.specs.declared.limits.Limits.{Limits};
 ghost use Rattle.run_model.specs.Machine.{fold};
-ghost use Rattle.run_model.specs.Sound.{IsFresh};
+ghost use Rattle.run_model.specs.Sound.{Discovers, IsFresh};
 ghost use Rattle.std.specs.List.{AllByRecursion};
 ghost use Rattle.std.specs.Prelude.{List};
 
@@ -10,4 +10,10 @@ ghost use Rattle.std.specs.Prelude.{List};
 pub fn runs_without_a_call_are_fresh()
     ensures { (limits : Limits) (inputs : List Input) →
         AllByRecursion (IsFresh (fold limits inputs)) (fold limits inputs).live }
+{}
+
+/// A run that is there has at most one item or open call that finds out what comes next, and one that has not ended has
+/// exactly one where it is to find that out.
+pub fn runs_find_out_once()
+    ensures { (limits : Limits) (inputs : List Input) → Discovers (fold limits inputs) }
 {}
