@@ -1,5 +1,6 @@
 pub mod FreshRuns
 pub mod OneDiscovery
+pub mod QueuedNew
 pub mod StepNames
 pub mod Turned
 pub mod TurnedSteps

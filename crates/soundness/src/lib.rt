@@ -4,4 +4,4 @@
 
 mod calls;
 
-pub use calls::{runs_find_out_once, runs_without_a_call_are_fresh};
+pub use calls::{items_are_unrecorded, runs_find_out_once, runs_without_a_call_are_fresh};
