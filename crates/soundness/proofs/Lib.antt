@@ -1,11 +1,19 @@
-pub mod Holding
-pub mod HoldingReplies
-pub mod HoldingSteps
-pub mod NamedThere
-pub mod CountedCalls
-pub mod PlannedNames
-pub mod PlannedCalls
-pub mod PlannedItems
-pub mod NamesRead
-pub mod ToldTargets
-pub mod PlannedOnce
+mod CountedCalls
+mod FreshRuns
+mod Holding
+mod HoldingReplies
+mod HoldingSteps
+mod NamedThere
+mod NamesRead
+mod OneDiscovery
+mod PlannedCalls
+mod PlannedItems
+mod PlannedNames
+mod PlannedOnce
+mod QueuedNew
+mod Sound
+mod StepNames
+mod ToldTargets
+mod Turned
+mod TurnedSteps
+mod Work
