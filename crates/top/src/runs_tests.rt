@@ -30,7 +30,7 @@ const BRIEF: &str = r#"// A key's limit, and calls by score.
 // Cancel rules, with a call that is open and without; a cancellation, and a second.
 ,"concurrency":1,"cancel":[{"event":"stop","if":"async.data.u == event.data.u"}] => 1 EVENTS [<1>,<2>]|2 EVENTS {"name":"stop","data":{"u":1}}|3 REPLY 1 206 [{"id":"%1","op":"StepRun","data":1}]| => [["evt-1","evt-2"]]|call 1 a-f step run 1 attempt 0 steps 0 events evt-1|[["evt-3"]]|call 2 a-f step run 2 attempt 0 steps 0 events evt-2|end inputs=4 live=1 moment=3|
 ,"cancel":[{"event":"stop","if":"async.data.u == event.data.u"}] => 1 EVENTS [<1>,<2>]|2 EVENTS {"name":"stop","data":{"u":1}}|3 REPLY 1 206 [{"id":"%1","op":"StepRun","data":1}]|4 REPLY 2 206 [{"id":"%1","op":"StepRun","data":1}]| => [["evt-1","evt-2"]]|call 1 a-f step run 1 attempt 0 steps 0 events evt-1|call 2 a-f step run 2 attempt 0 steps 0 events evt-2|[["evt-3"]]|call 3 a-f step run 2 attempt 0 steps 1 events evt-2|end inputs=5 live=1 moment=4|
-{} => 0 EVENTS <1>|1 CANCEL 1|2 CANCEL 1| => [["evt-1"]]|call 1 a-f step run 1 attempt 0 steps 0 events evt-1|answer 204|answer 400 {"error":"run ended","status":400}|end inputs=3 live=0 moment=2|
+{} => 0 EVENTS <1>|1 CANCEL 1|2 CANCEL 1| => [["evt-1"]]|call 1 a-f step run 1 attempt 0 steps 0 events evt-1|answer 204|answer 400 {"error":"run ended","status":400}|end inputs=3 live=0 moment=1|
 // A call's limit.
 {} => 1 EVENTS <1>|7200000 TICK|7200001 TICK|7210001 TICK| => [["evt-1"]]|call 1 a-f step run 1 attempt 0 steps 0 events evt-1|hang 1|call 2 a-f step run 1 attempt 1 steps 0 events evt-1|end inputs=5 live=1 moment=7210001|
 // Replies out of order, planned steps, and one beside a sleep.
