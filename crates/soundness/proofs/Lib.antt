@@ -1,7 +1,11 @@
 pub mod FreshRuns
+pub mod Greatest
 pub mod OneDiscovery
 pub mod QueuedNew
+pub mod Standing
+pub mod StartsLet
 pub mod StepNames
 pub mod Turned
 pub mod TurnedSteps
+pub mod Untouched
 pub mod Work
