@@ -1,3 +1,4 @@
+pub mod Asking
 pub mod FreshRuns
 pub mod Greatest
 pub mod OneDiscovery

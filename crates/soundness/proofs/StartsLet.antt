@@ -1,9 +1,10 @@
 -- Each start of a throttle's cell was let by all before it, call by call, and so through each history.
-use Rattle.std.proofs.Common.{◌≡◌, ℕ, zero, suc, ◌+◌, ◌-◌, ◌*◌, ◌≤◌, nat_le, min, Bool, true, false, ◌&&◌, cond, List, [], ◌∷◌, ◌++◌, map, filter, length, Option, Some, None, refl, sym, ap, ◌∙◌, subst, append_assoc, append-nil, arith}
-use Rattle.std.specs.List.{AllByRecursion}
+use Rattle.std.proofs.Common.{◌≡◌, ℕ, zero, suc, ◌==◌, IsSomeAnd, ◌+◌, ◌-◌, ◌*◌, ◌≤◌, nat_le, min, Bool, true, false, ◌&&◌, cond, List, [], ◌∷◌, ◌++◌, map, filter, length, Option, Some, None, refl, sym, ap, ◌∙◌, subst, append_assoc, append-nil, arith}
+use Rattle.std.specs.List.{AllByRecursion, list_any}
 use Rattle.kinds.specs.Cells.{are_free, is_cell, lets_start, may_start, slack, spacing}
 use Rattle.kinds.specs.Inputs.{reading}
 use Rattle.kinds.specs.Moments.{last_moment}
+use Rattle.kinds.specs.Queue.{has_number}
 use Rattle.kinds.specs.declared.cell.Cell.{Cell}
 use Rattle.kinds.specs.declared.cell.StartEntry.{StartEntry}
 use Rattle.kinds.specs.declared.input.Input.{Input}
@@ -16,9 +17,16 @@ use Rattle.run_model.specs.Settle.{Settled, issue, issue_found, issue_of, item_a
 use Rattle.run_model.specs.State.{State, Run, empty, issue_entries, live_run, moment_at, tidied}
 use Rattle.run_model.proofs.Apart.{Beside, apart-issue, apart-steps, apart-tidied}
 use Rattle.run_model.proofs.Limits.{issued-passes, may_be_issued}
+use Rattle.run_model.proofs.LiveRuns.{IsOf}
+use Rattle.run_model.proofs.Members.{in-all, in-found}
+use Rattle.run_model.proofs.OfLive.{AllOf, of-steps}
+use Rattle.run_model.proofs.SettlingLists.{any-found}
 use Rattle.run_model.proofs.KeptSteps.{all_fired, goes-on, kept-act, kept-advance}
-use Rattle.soundness.specs.Starts.{AreLet, KeepsPace, Made, TellsOf, acted_on, asks_for, made, made_after, made_by, made_in, made_of, starts, starts_of}
+use Rattle.soundness.specs.Starts.{AreLet, KeepsPace, Made, TellsOf, acted_on, is_start, start_of, made, made_after, made_by, made_in, made_of, starts, starts_of}
 use Rattle.soundness.proofs.Standing.{Stands, lets-next, same-cell, stands-later, stands-none, stands-other, stands-start}
+use Rattle.soundness.proofs.Asking.{Asks, asks-found, asks-none, turns-all}
+use Rattle.soundness.proofs.TurnedSteps.{turned-act, turned-advance, turned-issue, turned-tidied}
+use Rattle.soundness.proofs.Work.{work}
 use Rattle.soundness.proofs.Untouched.{Clock, clock, clock-acted, clock-fired}
 
 -- ## Starts, one after the other
@@ -93,17 +101,72 @@ by-after : (t u : ℕ) (moments : List ℕ) → t ≤ u → AreBy t moments → 
 by-after t u moments on h =
     all-weaker (λ s. s ≤ t) (λ s. s ≤ u) moments (λ s (low : s ≤ t). omega (arith, low, on)) h
 
+-- what a call's item says of its run: numbers differ, the run has not ended, and the item asks for its start
+abbrev Whole : State → Type 0
+Whole s = Beside [] s × (AllOf s × Asks (work [] s))
+
+whole-issue : (number : ℕ) (i : Item) (s : State) → next_issued s ≡ Some number → item_at number s ≡ Some i
+    → Whole s → Whole (issue i s)
+whole-issue number i s next there h = (
+  apart-issue number i s there h.0,
+  ((of-steps 0).issues number i s next there h.1.0, turned-issue Asks turns-all number i s there h.1.1),
+)
+
+whole-acted : (s : State) (input : Input) → Whole s → Whole (acted_on s input)
+whole-acted s input h =
+    let t : ℕ = moment_at (reading input) s in
+    let counted : State = count_input s in
+    let on : counted.moment ≤ t = goes-on s.moment (min (reading input) last_moment) in
+    let a : State = (advance t counted).state in (
+      kept-act t (λ i. Unit {0}) Beside (apart-steps t) input a tt
+          (kept-advance t (λ i. Unit {0}) Beside (apart-steps t) t counted (omega arith) on h.0),
+      (
+        kept-act t (λ i. Unit {0}) (λ is s. AllOf s) (of-steps t) input a tt
+            (kept-advance t (λ i. Unit {0}) (λ is s. AllOf s) (of-steps t) t counted (omega arith) on h.1.0),
+        turned-act Asks turns-all input a (turned-advance Asks turns-all t counted h.1.1),
+      ),
+    )
+
+whole-tidied : (s : State) → Whole s → Whole (tidied s)
+whole-tidied s h =
+    (apart-tidied s h.0, ((of-steps 0).tidies s h.1.0, turned-tidied Asks turns-all s h.1.1))
+
+whole-empty : (limits : Limits) → Whole (empty limits)
+whole-empty limits = (
+  record { given = tt; queued = tt; aside = tt; called = tt },
+  (
+    record { items_of = tt; sleeps_of = tt; waits_of = tt; invocations_of = tt; rules_of = tt },
+    asks-none,
+  ),
+)
+
+-- an item asks for a start where its run has one to make
+asks-start : (number : ℕ) (i : Item) (s : State) → item_at number s ≡ Some i → Whole s
+    → i.start ≡ start_of (live_run i.run s)
+asks-start number i s there h = by_found (live_run i.run s) refl
+  where
+    live : list_any (λ (r : Run). i.run == r.number) s.live ≡ true
+    live = in-all (λ (j : Item). IsOf s.live j.run) i s.items (in-found (has_number number) s.items i there)
+        h.1.0.items_of
+
+    none : IsSomeAnd (live_run i.run s) (λ r. (i.run == r.number) ≡ true) → live_run i.run s ≡ None → ⊥
+    none found e = subst (λ (o : Option Run). IsSomeAnd o (λ r. (i.run == r.number) ≡ true)) e found
+
+    by_found : (found : Option Run) → live_run i.run s ≡ found → i.start ≡ start_of found
+    by_found None e = absurd (none (any-found (λ (r : Run). i.run == r.number) s.live live) e)
+    by_found (Some r) e = asks-found number i r s h.1.1 there e
+
 module _ (cell : Cell) where
   -- what a state has of the starts of the cell so far
   abbrev Follows : List ℕ → Clock → Type 0
   Follows past c = Stands c.moment cell past c.starts × AreBy c.moment past
 
   abbrev Goes : List ℕ → State → Type 0
-  Goes past s = Beside [] s × Follows past (clock s)
+  Goes past s = Whole s × Follows past (clock s)
 
   -- the moments of the starts among one call
   abbrev own : Option Cell → Made → List ℕ
-  own start m = map (λ (m : Made). m.moment) (cond (asks_for cell start) (m ∷ []) [])
+  own start m = map (λ (m : Made). m.moment) (cond (is_start cell start) (m ∷ []) [])
 
   abbrev Starts : List ℕ → List ℕ → ℕ → List StartEntry → Type 0
   Starts past now t es = LetAfter cell past now × (Stands t cell (past ++ now) es × AreBy t (past ++ now))
@@ -144,14 +207,17 @@ module _ (cell : Cell) where
       → LetAfter cell past (starts_of cell (made_of (Some i) s))
       × Goes (past ++ starts_of cell (made_of (Some i) s)) (issue i s)
   starts-issue past number i s next there h =
-      let passes : may_be_issued s i ≡ true = issued-passes number i s h.0.queued next there in
+      let passes : may_be_issued s i ≡ true = issued-passes number i s h.0.0.queued next there in
       let may : may_start i.start s.moment s.starts ≡ true =
       third (nat_le i.due s.moment) (are_free i.cells (issue_entries s)) (may_start i.start s.moment s.starts) passes
       in
-      let k : Starts past (own i.start (record { item = i; moment = s.moment })) s.moment
-      (started_at i.start s.moment s.starts) =
-      one-starts past i.start (record { item = i; moment = s.moment }) s.starts h.1.0 h.1.1 may in
-      (k.0, (apart-issue number i s there h.0, k.1))
+      let m : Made = record { item = i; run = live_run i.run s; moment = s.moment } in
+      let k : Starts past (own i.start m) s.moment (started_at i.start s.moment s.starts) =
+      one-starts past i.start m s.starts h.1.0 h.1.1 may in
+      let asked : Starts past (own (start_of m.run) m) s.moment (started_at i.start s.moment s.starts) =
+      subst (λ (o : Option Cell). Starts past (own o m) s.moment (started_at i.start s.moment s.starts))
+      (asks-start number i s there h.0) k in
+      (asked.0, (whole-issue number i s next there h.0, asked.1))
     where
       third : (a b c : Bool) → (a && (b && c)) ≡ true → c ≡ true
       third true true c e = e
@@ -165,15 +231,15 @@ module _ (cell : Cell) where
 
   starts-both : (xs ys : List Made) → starts_of cell (xs ++ ys) ≡ starts_of cell xs ++ starts_of cell ys
   starts-both [] ys = refl
-  starts-both (x ∷ xs) ys = by_test (asks_for cell x.item.start) (starts-both xs ys)
+  starts-both (x ∷ xs) ys = by_test (is_start cell (start_of x.run)) (starts-both xs ys)
     where
       by_test : (b : Bool) → starts_of cell (xs ++ ys) ≡ starts_of cell xs ++ starts_of cell ys
           → map (λ (m : Made). m.moment)
-          (cond b (x ∷ filter (λ (m : Made). asks_for cell m.item.start) (xs ++ ys))
-          (filter (λ (m : Made). asks_for cell m.item.start) (xs ++ ys)))
+          (cond b (x ∷ filter (λ (m : Made). is_start cell (start_of m.run)) (xs ++ ys))
+          (filter (λ (m : Made). is_start cell (start_of m.run)) (xs ++ ys)))
           ≡ map (λ (m : Made). m.moment)
-          (cond b (x ∷ filter (λ (m : Made). asks_for cell m.item.start) xs)
-          (filter (λ (m : Made). asks_for cell m.item.start) xs)) ++ starts_of cell ys
+          (cond b (x ∷ filter (λ (m : Made). is_start cell (start_of m.run)) xs)
+          (filter (λ (m : Made). is_start cell (start_of m.run)) xs)) ++ starts_of cell ys
       by_test true more = ap (λ ms. x.moment ∷ ms) more
       by_test false more = more
 
@@ -239,12 +305,10 @@ module _ (cell : Cell) where
   goes-acted : (past : List ℕ) (s : State) (input : Input) → Goes past s → Goes past (acted_on s input)
   goes-acted past s input h =
       let t : ℕ = moment_at (reading input) s in
-      let counted : State = count_input s in
-      let on : counted.moment ≤ t = goes-on s.moment (min (reading input) last_moment) in (
-        kept-act t (λ i. Unit {0}) Beside (apart-steps t) input (advance t counted).state tt
-            (kept-advance t (λ i. Unit {0}) Beside (apart-steps t) t counted (omega arith) on h.0),
+      let counted : State = count_input s in (
+        whole-acted s input h.0,
         clock-acted (Follows past) input (advance t counted).state
-            (follows-advanced past t counted on h.1),
+            (follows-advanced past t counted (goes-on s.moment (min (reading input) last_moment)) h.1),
       )
 
   goes-tidied : (past : List ℕ) (s : State) → Follows past (clock s) → Follows past (clock (tidied s))
@@ -260,7 +324,7 @@ module _ (cell : Cell) where
       comes-by (length (acted_on s input).items) past start (goes-acted past s input h) in (
         k.0,
         (
-          apart-tidied (settle start).state k.1.0,
+          whole-tidied (settle start).state k.1.0,
           goes-tidied (past ++ starts_of cell (made_in s input)) (settle start).state k.1.1,
         ),
       )
@@ -278,7 +342,7 @@ module _ (cell : Cell) where
   comes-fold : (limits : Limits) (inputs : List Input) → Comes [] (made limits inputs) (fold limits inputs)
   comes-fold limits inputs =
       comes-after inputs [] (empty limits)
-      (record { given = tt; queued = tt; aside = tt; called = tt }, (stands-none 0 cell, tt))
+      (whole-empty limits, (stands-none 0 cell, tt))
 
 pub let-fold : (limits : Limits) (inputs : List Input) (cell : Cell) → AreLet cell (starts limits inputs cell)
 let-fold limits inputs cell = are-let cell (starts limits inputs cell) (comes-fold cell limits inputs).0

@@ -9,19 +9,21 @@ use Rattle.kinds.specs.declared.limits.Limits.{Limits}
 use Rattle.kinds.specs.declared.store.Item.{Item}
 use Rattle.run_model.specs.Advance.{advance}
 use Rattle.run_model.specs.Machine.{act, count_input, step}
+use Rattle.run_model.specs.Making.{unless}
 use Rattle.run_model.specs.Settle.{Settled, issue_found, item_at, next_issued}
-use Rattle.run_model.specs.State.{State, empty, moment_at}
+use Rattle.run_model.specs.State.{State, Run, empty, live_run, moment_at}
 
 -- ## The calls of a history
 
--- a call that is made: its item, as it was queued, and the moment
+-- a call that is made: its item, its run as this stood before the call, and the moment
 pub record Made : Type 0 where
   pub item : Item
+  pub run : Option Run
   pub moment : ℕ
 
 abbrev pub made_of : Option Item → State → List Made
 made_of None s = []
-made_of (Some i) s = record { item = i; moment = s.moment } ∷ []
+made_of (Some i) s = record { item = i; run = live_run i.run s; moment = s.moment } ∷ []
 
 -- those of settling, turn by turn: each makes the call of the item that is issued next
 unfoldable pub made_by : ℕ → Settled → List Made
@@ -50,13 +52,17 @@ made limits inputs = made_after (empty limits) inputs
 
 -- ## The starts of a cell
 
--- A run starts with its first call, and the item of that call asks for a start in the cell of the run's throttle.
-abbrev pub asks_for : Cell → Option Cell → Bool
-asks_for cell None = false
-asks_for cell (Some other) = is_cell cell other
+-- A run starts with its first call, in the cell of its throttle, where it has one.
+abbrev pub start_of : Option Run → Option Cell
+start_of None = None
+start_of (Some r) = unless r.started r.start
+
+abbrev pub is_start : Cell → Option Cell → Bool
+is_start cell None = false
+is_start cell (Some other) = is_cell cell other
 
 abbrev pub starts_of : Cell → List Made → List ℕ
-starts_of cell calls = map (λ (m : Made). m.moment) (filter (λ (m : Made). asks_for cell m.item.start) calls)
+starts_of cell calls = map (λ (m : Made). m.moment) (filter (λ (m : Made). is_start cell (start_of m.run)) calls)
 
 -- the moments of all starts of the cell in a history
 abbrev pub starts : Limits → List Input → Cell → List ℕ
