@@ -1,9 +1,11 @@
 pub mod Asking
 pub mod FreshRuns
 pub mod Greatest
+pub mod MadeCalls
 pub mod OneDiscovery
 pub mod QueuedNew
 pub mod Standing
+pub mod StartRows
 pub mod StartsLet
 pub mod StepNames
 pub mod Turned

@@ -101,7 +101,7 @@ by-after : (t u : ℕ) (moments : List ℕ) → t ≤ u → AreBy t moments → 
 by-after t u moments on h =
     all-weaker (λ s. s ≤ t) (λ s. s ≤ u) moments (λ s (low : s ≤ t). omega (arith, low, on)) h
 
--- what a call's item says of its run: numbers differ, the run has not ended, and the item asks for its start
+-- numbers of items differ, and each item is of a run that has not ended and asks for the start of this run
 abbrev Whole : State → Type 0
 Whole s = Beside [] s × (AllOf s × Asks (work [] s))
 
@@ -211,7 +211,7 @@ module _ (cell : Cell) where
       let may : may_start i.start s.moment s.starts ≡ true =
       third (nat_le i.due s.moment) (are_free i.cells (issue_entries s)) (may_start i.start s.moment s.starts) passes
       in
-      let m : Made = record { item = i; run = live_run i.run s; moment = s.moment } in
+      let m : Made = record { call = s.calls + 1; item = i; run = live_run i.run s; moment = s.moment } in
       let k : Starts past (own i.start m) s.moment (started_at i.start s.moment s.starts) =
       one-starts past i.start m s.starts h.1.0 h.1.1 may in
       let asked : Starts past (own (start_of m.run) m) s.moment (started_at i.start s.moment s.starts) =
@@ -353,74 +353,3 @@ pace-fold limits inputs cell = keeps-pace cell (starts limits inputs cell) (come
 pub tells-fold : (limits : Limits) (inputs : List Input) (cell : Cell)
     → TellsOf (fold limits inputs) cell (starts limits inputs cell)
 tells-fold limits inputs cell = (comes-fold cell limits inputs).1.1.0.tells
-
--- ## How many calls there are
-
-calls-of : (run : Option Run) (i : Item) (a : Settled) → (issue_of run i a).state.calls ≡ a.state.calls + 1
-calls-of None i a = refl
-calls-of (Some r) i a = refl
-
-calls-found : (found : Option Item) (a : Settled)
-    → (issue_found found a).state.calls ≡ a.state.calls + length (made_of found a.state)
-calls-found None a = omega arith
-calls-found (Some i) a = calls-of (live_run i.run a.state) i a
-
-length-both : {X : Type 0} (xs ys : List X) → length (xs ++ ys) ≡ length xs + length ys
-length-both [] ys = omega arith
-length-both (x ∷ xs) ys = let more = length-both xs ys in omega (arith, more)
-
-added : (a b c m n k : ℕ) → b ≡ a + m → c ≡ b + n → k ≡ m + n → c ≡ a + k
-added a b c m n k e f g = omega (arith, e, f, g)
-
-calls-by : (n : ℕ) (a : Settled) → (settle_by n a).state.calls ≡ a.state.calls + length (made_by n a)
-unfolding made_by settle_by
-calls-by zero a = omega arith
-calls-by (suc n) a =
-    elim (next_issued a.state) as (λ o. (elim o as (λ _. Settled)
-    [ None ↦ a | Some number ↦ settle_by n (issue_found (item_at number a.state) a) ]).state.calls
-    ≡ a.state.calls + length (elim o as (λ _. List Made) [
-      | None ↦ []
-      | Some number ↦
-          made_of (item_at number a.state) a.state ++ made_by n (issue_found (item_at number a.state) a)
-    ])) [
-      | None ↦ omega arith
-      | Some number ↦
-          let found : Option Item = item_at number a.state in
-          added a.state.calls (issue_found found a).state.calls (settle_by n (issue_found found a)).state.calls
-          (length (made_of found a.state)) (length (made_by n (issue_found found a)))
-          (length (made_of found a.state ++ made_by n (issue_found found a))) (calls-found found a)
-          (calls-by n (issue_found found a))
-          (length-both (made_of found a.state) (made_by n (issue_found found a)))
-    ]
-
-calls-advanced : (t : ℕ) (s : State) → (advance t s).state.calls ≡ s.calls
-unfolding advance
-calls-advanced t s = (clock-fired most t (record { state = s; hangs = [] })).0
-
-calls-acted : (s : State) (input : Input) → (acted_on s input).calls ≡ s.calls
-calls-acted s input =
-    let t : ℕ = moment_at (reading input) s in
-    clock-acted (λ c. c.calls ≡ s.calls) input (advance t (count_input s)).state (calls-advanced t (count_input s))
-
-calls-tidied : (s : State) → (tidied s).calls ≡ s.calls
-unfolding tidied
-calls-tidied s = refl
-
-calls-step : (s : State) (input : Input) → (step s input).state.calls ≡ s.calls + length (made_in s input)
-unfolding step
-calls-step s input =
-    let start : Settled = record { state = acted_on s input; outs = [] } in
-    calls-tidied (settle start).state ∙ calls-by (length (acted_on s input).items) start
-    ∙ ap (λ n. n + length (made_in s input)) (calls-acted s input)
-
-calls-after : (inputs : List Input) (s : State)
-    → (state_after s inputs).calls ≡ s.calls + length (made_after s inputs)
-calls-after [] s = omega arith
-calls-after (input ∷ inputs) s =
-    let t : State = (step s input).state in
-    added s.calls t.calls (state_after t inputs).calls (length (made_in s input)) (length (made_after t inputs))
-    (length (made_in s input ++ made_after t inputs)) (calls-step s input) (calls-after inputs t)
-    (length-both (made_in s input) (made_after t inputs))
-
-pub calls-fold : (limits : Limits) (inputs : List Input) → (fold limits inputs).calls ≡ length (made limits inputs)
-calls-fold limits inputs = let all = calls-after inputs (empty limits) in omega (arith, all)

@@ -6,8 +6,11 @@ use Rattle.kinds.specs.Inputs.{reading}
 use Rattle.kinds.specs.declared.cell.Cell.{Cell}
 use Rattle.kinds.specs.declared.input.Input.{Input}
 use Rattle.kinds.specs.declared.limits.Limits.{Limits}
+use Rattle.kinds.specs.declared.out.Out.{Out}
+use Rattle.kinds.specs.declared.out.Out.TheVariants as out
 use Rattle.kinds.specs.declared.store.Item.{Item}
 use Rattle.run_model.specs.Advance.{advance}
+use Rattle.run_model.specs.Laws.{IsIn}
 use Rattle.run_model.specs.Machine.{act, count_input, step}
 use Rattle.run_model.specs.Making.{unless}
 use Rattle.run_model.specs.Settle.{Settled, issue_found, item_at, next_issued}
@@ -15,15 +18,17 @@ use Rattle.run_model.specs.State.{State, Run, empty, live_run, moment_at}
 
 -- ## The calls of a history
 
--- a call that is made: its item, its run as this stood before the call, and the moment
+-- a call that is made: its number, its item, its run as this stood before the call, and the moment
 pub record Made : Type 0 where
+  pub call : ℕ
   pub item : Item
   pub run : Option Run
   pub moment : ℕ
 
 abbrev pub made_of : Option Item → State → List Made
 made_of None s = []
-made_of (Some i) s = record { item = i; run = live_run i.run s; moment = s.moment } ∷ []
+made_of (Some i) s =
+    record { call = s.calls + 1; item = i; run = live_run i.run s; moment = s.moment } ∷ []
 
 -- those of settling, turn by turn: each makes the call of the item that is issued next
 unfoldable pub made_by : ℕ → Settled → List Made
@@ -49,6 +54,23 @@ made_after s (input ∷ inputs) = made_in s input ++ made_after (step s input).s
 -- those of a history, the first of them first
 abbrev pub made : Limits → List Input → List Made
 made limits inputs = made_after (empty limits) inputs
+
+-- behind so many calls, each is numbered next
+abbrev pub AreNumberedFrom : ℕ → List Made → Type 0
+AreNumberedFrom count [] = Unit {0}
+AreNumberedFrom count (m ∷ ms) = (m.call ≡ count + 1) × AreNumberedFrom (count + 1) ms
+
+-- it has this number, run, target and attempt
+abbrev pub IsCall : ℕ → ℕ → List ℕ → ℕ → Made → Type 0
+IsCall call run target attempt m =
+    (m.call ≡ call) × ((m.item.run ≡ run) × ((m.item.target ≡ target) × (m.item.attempt ≡ attempt)))
+
+-- where a call is said, it is one of these
+abbrev pub IsMade : List Made → Out → Type 0
+IsMade calls (out.Call call function target run attempt steps events host port path body) =
+    (m : Made) × (IsIn m calls × IsCall call run target attempt m)
+IsMade calls (out.Answer status body) = Unit {0}
+IsMade calls (out.Hang call) = Unit {0}
 
 -- ## The starts of a cell
 

@@ -7,6 +7,6 @@ mod throttles;
 
 pub use calls::{items_are_unrecorded, runs_find_out_once, runs_without_a_call_are_fresh};
 pub use throttles::{
-    entries_tell_of_starts, made_calls_are_numbered, nothing_is_over_the_greatest, starts_are_let,
-    throttles_hold,
+    entries_tell_of_starts, made_calls_are_numbered, nothing_is_over_the_greatest,
+    said_calls_are_made, starts_are_let, throttles_hold,
 };

@@ -1,15 +1,16 @@
 // Throttles over whole histories, and the greatest of the counts.
-ghost use Rattle.kinds.specs.Cells.{lets_start};
 ghost use Rattle.kinds.specs.declared.cell.Cell.{Cell};
 ghost use Rattle.kinds.specs.declared.input.Input.{Input};
 ghost use Rattle.kinds.specs.declared.limits.Limits.{Limits};
-ghost use Rattle.run_model.specs.Machine.{fold};
+ghost use Rattle.run_model.specs.Machine.{fold, step};
 ghost use Rattle.run_model.specs.Sound.{IsNumbered};
 ghost use Rattle.run_model.specs.State.{State, greatest};
-ghost use Rattle.soundness.specs.Starts.{AreLet, AreUpTo, KeepsPace, TellsOf, counted_to, counts_of, made, starts};
+ghost use Rattle.soundness.specs.Starts.{AreLet, AreNumberedFrom, AreUpTo, IsMade, KeepsPace, TellsOf, counted_to, counts_of, made, made_in, starts};
+ghost use Rattle.std.specs.List.{AllByRecursion};
 ghost use Rattle.std.specs.Prelude.{◌≡◌, List, length};
 
-/// Whatever inputs there were, no two starts of a throttle's cell are nearer than its limit, period and burst allow.
+/// Whatever inputs there were, all starts of a throttle's cell keep to its limit, period and burst: of any two, the
+/// later is no sooner than the starts from the earlier on allow.
 pub fn throttles_hold()
     ensures { (limits : Limits) (inputs : List Input) (cell : Cell) → KeepsPace cell (starts limits inputs cell) }
 {}
@@ -26,10 +27,18 @@ pub fn entries_tell_of_starts()
         TellsOf (fold limits inputs) cell (starts limits inputs cell) }
 {}
 
-/// The calls of a history that starts are taken from are all of them: as many as were numbered.
+/// The calls that starts are taken from are all calls of a history: they are numbered one after the other, and the last
+/// number is the state's count.
 pub fn made_calls_are_numbered()
-    ensures { (limits : Limits) (inputs : List Input) →
+    ensures numbers { (limits : Limits) (inputs : List Input) → AreNumberedFrom 0 (made limits inputs) }
+    ensures count { (limits : Limits) (inputs : List Input) →
         (fold limits inputs).calls ≡ length (made limits inputs) }
+{}
+
+/// Each call that is said is one of them, with its run, target and attempt.
+pub fn said_calls_are_made()
+    ensures { (s : State) (input : Input) →
+        AllByRecursion (IsMade (made_in s input)) (step s input).outs }
 {}
 
 /// No count is over the greatest, nor is any number that is bounded by a count.
