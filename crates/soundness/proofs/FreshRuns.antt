@@ -25,18 +25,18 @@ use Rattle.soundness.proofs.TurnedSteps.{turned-fold}
 use Rattle.soundness.proofs.Work.{HasNumbers, IsFor, IsMade, Turns, Work, beside, pended, run_in, turns-numbers, work}
 
 -- an item of the run is aside
-abbrev has_aside : List Item → ℕ → Bool
+abbrev pub has_aside : List Item → ℕ → Bool
 has_aside is run = list_any (λ (i : Item). run == i.run) is
 
-record IsQuiet (is : List Item) (issues : List Issue) (r : Run) : Type 0 where
-  unnamed : names r.steps ≡ 0
-  uncalled : has_open_call issues r.number ≡ false
-  unheld : has_aside is r.number ≡ false
+pub record IsQuiet (is : List Item) (issues : List Issue) (r : Run) : Type 0 where
+  pub unnamed : names r.steps ≡ 0
+  pub uncalled : has_open_call issues r.number ≡ false
+  pub unheld : has_aside is r.number ≡ false
 
-abbrev Starts : List Item → List Issue → Run → Type 0
+abbrev pub Starts : List Item → List Issue → Run → Type 0
 Starts is issues r = r.started ≡ false → IsQuiet is issues r
 
-abbrev AreQuiet : Work → Type 0
+abbrev pub AreQuiet : Work → Type 0
 AreQuiet w = AllByRecursion (Starts w.aside w.issues) w.live
 
 -- ## Lists
@@ -74,7 +74,7 @@ none-behind true c e = absurd (cc)
 none-behind false c e = e
 
 -- where one passes, some does
-not-none : {X : Type 0} (p : X → Bool) (x : X) (xs : List X) → IsIn x xs → p x ≡ true
+pub not-none : {X : Type 0} (p : X → Bool) (x : X) (xs : List X) → IsIn x xs → p x ≡ true
     → list_any p xs ≡ false → ⊥
 not-none p x xs there own none = let yes : list_any p xs ≡ true = any-in p x xs there own in cc
 
@@ -106,7 +106,7 @@ some-names test (p ∷ ps) e none = omega (arith, none)
 -- ## The changes
 
 -- the run of an item that is aside has started
-held-started : (i : Item) (r q : Run) (w : Work) → IsIn i w.aside → run_in i.run w.live ≡ Some r
+pub held-started : (i : Item) (r q : Run) (w : Work) → IsIn i w.aside → run_in i.run w.live ≡ Some r
     → r.number ≡ q.number → has_aside w.aside q.number ≡ false → ⊥
 held-started i r q w there live same none =
     let own : i.run ≡ r.number =
@@ -210,7 +210,7 @@ quiet-called i j w own h =
       unheld = (k unstarted).unheld;
     }) h
 
-turns-quiet : Turns HasNumbers AreQuiet
+pub turns-quiet : Turns HasNumbers AreQuiet
 turns-quiet = record {
   makes = λ r i w made own numbers h. quiet-made r i w made numbers h;
   finds_out = λ r i w there none own numbers h. h;
@@ -233,7 +233,7 @@ turns-quiet = record {
   reopens = λ w numbers h. quiet-reopened w h;
   drops = λ i is w numbers h. quiet-dropped i is w h;
   requeues = λ i j is w own numbers h. quiet-dropped i is w h;
-  calls = λ i j w there own numbers h. quiet-called i j w own h;
+  calls = λ i j w there own numbers h. quiet-called i j w own.0 h;
 }
 
 -- ## What follows

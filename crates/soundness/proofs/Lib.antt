@@ -1,8 +1,11 @@
+mod Asking
 mod CountedCalls
 mod FreshRuns
+mod Greatest
 mod Holding
 mod HoldingReplies
 mod HoldingSteps
+mod MadeCalls
 mod NamedThere
 mod NamesRead
 mod OneDiscovery
@@ -12,8 +15,12 @@ mod PlannedNames
 mod PlannedOnce
 mod QueuedNew
 mod Sound
+mod Standing
+mod StartRows
+mod StartsLet
 mod StepNames
 mod ToldTargets
 mod Turned
 mod TurnedSteps
+mod Untouched
 mod Work

@@ -295,10 +295,10 @@ once-called i j w there own h n =
 
 turns-once : Turns HasNumbers FindOnce
 turns-once = record {
-  makes = λ r i w made own numbers h. once-made r i w made own numbers h;
-  finds_out = λ r i w there none own numbers h. once-found r i w none own h;
+  makes = λ r i w made own numbers h. once-made r i w made own.0 numbers h;
+  finds_out = λ r i w there none own numbers h. once-found r i w none own.0 h;
   wants = λ number w numbers h. h;
-  plans = λ i r name j w out live named own numbers h. once-planned r.number name j w named own h;
+  plans = λ i r name j w out live named own numbers h. once-planned r.number name j w named own.0 h;
   pends = λ i r name kind w out live named numbers h. h;
   results = λ i r name result w out live named numbers h.
       once-fewer (λ j. not (is_item_of r.number name j)) w h;
@@ -307,8 +307,8 @@ turns-once = record {
   closes = λ i w there numbers h. once-closed i w there h;
   reopens = λ w numbers h. once-reopened w h;
   drops = λ i is w numbers h. once-dropped i is w h;
-  requeues = λ i j is w own numbers h. once-requeued i j is w own h;
-  calls = λ i j w there own numbers h. once-called i j w there own h;
+  requeues = λ i j is w own numbers h. once-requeued i j is w own.0 h;
+  calls = λ i j w there own numbers h. once-called i j w there own.0 h;
 }
 
 -- ## What follows

@@ -55,7 +55,7 @@ module _ (K : Work → Type 0) (turns : Turns Any K) where
       (elim (r.wanted && not (has_discovery s r.number))
       as (λ b. (r.wanted && not (has_discovery s r.number)) ≡ b → On [] (cond b (queue_new r step_target s) s)) [
         | true ↦ λ missed. turns.finds_out r (new_item r step_target s) (work [] s) there
-            (is-missed r.wanted (has_discovery s r.number) missed) (refl, refl) tt h
+            (is-missed r.wanted (has_discovery s r.number) missed) ((refl, refl), refl) tt h
         | false ↦ λ e. h
       ]) refl
 
@@ -87,7 +87,7 @@ module _ (K : Work → Type 0) (turns : Turns Any K) where
       let i : Item = new_item r step_target t in
       subst (λ (w : Work). K (record w { items = insert_item i w.items }))
       (sym (work-rules is r (first_of events) event f.function.cancels (started f events parent s)))
-      (turns.makes r i (work is s) (refl, refl) (refl, refl) tt h)
+      (turns.makes r i (work is s) (refl, refl) ((refl, refl), refl) tt h)
 
   -- ## What a step waits for
 

@@ -74,7 +74,7 @@ module _ (K : Work → Type 0) (turns : Turns Any K) where
       → On (i ∷ []) s → On (i ∷ []) (plan_named r name s)
   turned-plan i r name s live named h =
       turns.plans i r name (new_item r name (change_run r.number (with_plan name) s)) (work (i ∷ []) s) (inl refl)
-      live named (refl, refl) tt h
+      live named ((refl, refl), refl) tt h
 
   turned-invoke : (i : Item) (found : Option FunctionEntry) (r : Run) (name : List ℕ) (payload : Option (List ℕ))
       (t : Option Time) (s : State) → live_run i.run s ≡ Some r → IsName name → On (i ∷ []) s
@@ -144,7 +144,7 @@ module _ (K : Work → Type 0) (turns : Turns Any K) where
         | true ↦ turns.wants r.number (work [] s) tt (turned-drop i [] s h)
         | false ↦ elim (nat_lt i.attempt (retries_of r s)) as (λ b. On [] (elim b as (λ _. State)
             [ true ↦ queue (again i a s) s | false ↦ fail_run r error s ])) [
-              | true ↦ turns.requeues i (again i a s) [] (work [] s) (refl, refl) tt h
+              | true ↦ turns.requeues i (again i a s) [] (work [] s) ((refl, refl), λ e. refl) tt h
               | false ↦ turned-fail_run K turns [] r error s (turned-drop i [] s h)
             ]
       ]
@@ -278,15 +278,15 @@ module _ (K : Work → Type 0) (turns : Turns Any K) where
             (is-due t a.state next e).1 h)
       ]) refl
 
-  turned-advance : (t : ℕ) (s : State) → On [] s → On [] (advance t s).state
+  pub turned-advance : (t : ℕ) (s : State) → On [] s → On [] (advance t s).state
   unfolding advance
   turned-advance t s h = turned-fire_by most t (record { state = s; hangs = [] }) h
 
   -- ## Calls that are made
 
-  turned-issue : (number : ℕ) (i : Item) (s : State) → item_at number s ≡ Some i → On [] s → On [] (issue i s)
+  pub turned-issue : (number : ℕ) (i : Item) (s : State) → item_at number s ≡ Some i → On [] s → On [] (issue i s)
   turned-issue number i s found h =
-      turns.calls i (issued i s) (work [] s) (in-found (has_number number) s.items i found) (refl, refl) tt h
+      turns.calls i (issued i s) (work [] s) (in-found (has_number number) s.items i found) ((refl, refl), refl) tt h
 
   turned-issue_of : (number : ℕ) (run : Option Run) (i : Item) (a : Settled) → item_at number a.state ≡ Some i
       → On [] a.state → On [] (issue_of run i a).state
@@ -318,7 +318,7 @@ module _ (K : Work → Type 0) (turns : Turns Any K) where
       elim (is_recorded i.target r.steps) as (λ b. On is (elim b as (λ _. State)
       [ true ↦ change_run r.number want s | false ↦ queue (record i { due = s.moment }) s ])) [
         | true ↦ turns.wants r.number (work is s) tt (turned-drop i is s h)
-        | false ↦ turns.requeues i (record i { due = s.moment }) is (work is s) (refl, refl) tt h
+        | false ↦ turns.requeues i (record i { due = s.moment }) is (work is s) ((refl, refl), λ e. e) tt h
       ]
 
   turned-requeue_all : (is : List Issue) (s : State) → On (map item_of is) s → On [] (requeue_all is s)
@@ -334,7 +334,7 @@ module _ (K : Work → Type 0) (turns : Turns Any K) where
 
   -- ## An input
 
-  turned-act : (input : Input) (s : State) → On [] s → On [] (act input s).state
+  pub turned-act : (input : Input) (s : State) → On [] s → On [] (act input s).state
   unfolding act
   turned-act (Events at events) s h =
       turned-on_events K turns events (record { state = s; numbers = [] }) h
@@ -345,7 +345,7 @@ module _ (K : Work → Type 0) (turns : Turns Any K) where
   turned-act (Cancel at run) s h = turned-cancel_found K turns (live_run run s) s h
   turned-act (Reopened at) s h = turned-reopen s h
 
-  turned-tidied : (s : State) → On [] s → On [] (tidied s)
+  pub turned-tidied : (s : State) → On [] s → On [] (tidied s)
   unfolding tidied
   turned-tidied s h = h
 

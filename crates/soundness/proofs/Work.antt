@@ -1,16 +1,17 @@
 -- What runs, items and calls there are, and the ways in which these change: operations are of the run whose call ended
 -- and name steps, and nothing is found out while an item is aside.
-use Rattle.std.proofs.Common.{◌≡◌, ℕ, ◌+◌, ◌<◌, ◌≤◌, ◌==◌, Bool, true, false, not, ◌||◌, List, [], ◌∷◌, ◌++◌, map, filter, find, Option, Some, refl, sym, subst, arith}
+use Rattle.std.proofs.Common.{◌≡◌, ℕ, ◌+◌, ◌<◌, ◌≤◌, ◌==◌, Bool, true, false, not, ◌||◌, List, [], ◌∷◌, ◌++◌, map, filter, find, Option, Some, None, refl, sym, subst, arith}
 use Rattle.std.specs.List.{AllByRecursion, list_any}
 use Rattle.kinds.specs.Queue.{has_number, has_run, insert_item, without_number, without_run}
 use Rattle.kinds.specs.RunSteps.{is_pending, no_steps, pend_step}
+use Rattle.kinds.specs.declared.cell.Cell.{Cell}
 use Rattle.kinds.specs.declared.store.Item.{Item}
 use Rattle.kinds.specs.declared.store.Pending.{Pending}
 use Rattle.lists.proofs.Elements.{all-filter, all-last, all-weaker}
 use Rattle.step_ids.specs.Step.{is_step_name}
 use Rattle.run_model.specs.Fit.{item_of}
 use Rattle.run_model.specs.Laws.{IsIn}
-use Rattle.run_model.specs.Making.{is_item_of, step_target}
+use Rattle.run_model.specs.Making.{is_item_of, step_target, unless}
 use Rattle.run_model.specs.Recording.{changed, record_in, without_item}
 use Rattle.run_model.specs.Replies.{want, with_plan, with_steps}
 use Rattle.run_model.specs.Settle.{called}
@@ -51,6 +52,10 @@ IsMade runs r = (r.number ≡ runs + 1) × (r.steps ≡ no_steps)
 abbrev pub IsFor : ℕ → List ℕ → Item → Type 0
 IsFor run target i = (i.run ≡ run) × (i.target ≡ target)
 
+-- and it asks for this start
+abbrev pub IsToStart : ℕ → List ℕ → Option Cell → Item → Type 0
+IsToStart run target start i = IsFor run target i × (i.start ≡ start)
+
 -- an item or a call of this run finds out what comes next
 abbrev pub finds_out_in : ℕ → Work → Bool
 finds_out_in run w =
@@ -63,15 +68,17 @@ pended kind name r = with_steps (pend_step name kind r.steps) r
 -- Each change keeps a property, where another holds before it.
 pub record Turns (B K : Work → Type 0) : Type 0 where
   -- a run is made with its first item, or a run gets one that finds out what comes next, where nothing is aside
-  pub makes : (r : Run) (i : Item) (w : Work) → IsMade w.runs r → IsFor r.number step_target i → B w → K w
+  pub makes : (r : Run) (i : Item) (w : Work) → IsMade w.runs r
+      → IsToStart r.number step_target (unless r.started r.start) i → B w → K w
       → K (record w { runs = w.runs + 1; live = w.live ++ r ∷ []; items = insert_item i w.items })
   pub finds_out : (r : Run) (i : Item) (w : Work) → IsIn r w.live → finds_out_in r.number w ≡ false
-      → IsFor r.number step_target i → B (record w { aside = [] }) → K (record w { aside = [] })
+      → IsToStart r.number step_target (unless r.started r.start) i → B (record w { aside = [] }) → K (record w { aside = [] })
       → K (record w { aside = []; items = insert_item i w.items })
   pub wants : (number : ℕ) (w : Work) → B w → K w → K (record w { live = changed number want w.live })
   -- an operation of the run whose item is aside
   pub plans : (i : Item) (r : Run) (name : List ℕ) (j : Item) (w : Work) → IsIn i w.aside
-      → run_in i.run w.live ≡ Some r → IsName name → IsFor r.number name j → B w → K w
+      → run_in i.run w.live ≡ Some r → IsName name
+      → IsToStart r.number name (unless r.started r.start) j → B w → K w
       → K (record w { live = changed r.number (with_plan name) w.live; items = insert_item j w.items })
   pub pends : (i : Item) (r : Run) (name : List ℕ) (kind : Pending) (w : Work) → IsIn i w.aside
       → run_in i.run w.live ≡ Some r → IsName name → B w → K w
@@ -105,11 +112,13 @@ pub record Turns (B K : Work → Type 0) : Type 0 where
   -- an item that is aside goes, or is queued again
   pub drops : (i : Item) (is : List Item) (w : Work) → B (record w { aside = i ∷ is })
       → K (record w { aside = i ∷ is }) → K (record w { aside = is })
-  pub requeues : (i j : Item) (is : List Item) (w : Work) → IsFor i.run i.target j
+  pub requeues : (i j : Item) (is : List Item) (w : Work)
+      → IsFor i.run i.target j × (i.start ≡ None → j.start ≡ None)
       → B (record w { aside = i ∷ is }) → K (record w { aside = i ∷ is })
       → K (record w { aside = is; items = insert_item j w.items })
   -- a call is made
-  pub calls : (i : Item) (j : Issue) (w : Work) → IsIn i w.items → IsFor i.run i.target j.item → B w → K w
+  pub calls : (i : Item) (j : Issue) (w : Work) → IsIn i w.items → IsToStart i.run i.target None j.item → B w
+      → K w
       → K (record w {
         live = changed i.run (called i.target) w.live;
         items = without_number i.number w.items;
@@ -246,12 +255,12 @@ numbers-called i j w there own h =
 
 pub turns-numbers : Turns Any HasNumbers
 turns-numbers = record {
-  makes = λ r i w made own any h. numbers-made r i w made own h;
+  makes = λ r i w made own any h. numbers-made r i w made own.0 h;
   finds_out = λ r i w there none own any h. (
     h.0,
     (
       h.1.0,
-      (given-queued w.runs r.number i w.items own.0 (live-given w.runs r w.live there h.0) h.1.1.0, h.1.1.1),
+      (given-queued w.runs r.number i w.items own.0.0 (live-given w.runs r w.live there h.0) h.1.1.0, h.1.1.1),
     ),
   );
   wants = λ number w any h. numbers-changed_by number want w (λ r. refl) h;
@@ -259,7 +268,7 @@ turns-numbers = record {
     rise-changed w.runs r.number (with_plan name) w.live (λ q. refl) h.0,
     (
       h.1.0,
-      (given-queued w.runs r.number j w.items own.0 (found-given i.run r w live h) h.1.1.0, h.1.1.1),
+      (given-queued w.runs r.number j w.items own.0.0 (found-given i.run r w live h) h.1.1.0, h.1.1.1),
     ),
   );
   pends = λ i r name kind w out live named any h. numbers-changed_by r.number (pended kind name) w (λ q. refl) h;
@@ -287,6 +296,6 @@ turns-numbers = record {
       (h.0, (all-map (λ (i : Item). i.run ≤ w.runs) item_of w.issues h.1.1.1, (h.1.1.0, tt)));
   drops = λ i is w any h. (h.0, (h.1.0.1, h.1.1));
   requeues = λ i j is w own any h.
-      (h.0, (h.1.0.1, (given-queued w.runs i.run j w.items own.0 h.1.0.0 h.1.1.0, h.1.1.1)));
-  calls = λ i j w there own any h. numbers-called i j w there own h;
+      (h.0, (h.1.0.1, (given-queued w.runs i.run j w.items own.0.0 h.1.0.0 h.1.1.0, h.1.1.1)));
+  calls = λ i j w there own any h. numbers-called i j w there own.0 h;
 }
