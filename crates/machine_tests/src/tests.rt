@@ -7,7 +7,8 @@ use kinds::{App, EventIn, Function, Input, Limits, Refusal, RunStatus, Steps, Tr
 use lists::{Bytes, Items, Memory};
 use machine::Machine;
 use std::alloc::Global;
-use std::sync::ledger::{Blank, Brand, Ledger};
+use std::marker::Brand;
+use std::sync::ledger::{Blank, Ledger};
 use std::test::Fail;
 
 /// A request of one event `x` with the id `i`.
