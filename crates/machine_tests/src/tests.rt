@@ -118,7 +118,11 @@ fn a_remembered_id_is_kept(rt: HostRuntime) -> Result<(), Fail> {
 
 /// A machine with one function and one run.
 fn with_run(alloc: Global) -> Result<Machine, Fail> {
-    let machine = taken::<Brand>(Blank::new(1), blank(alloc, 1000)?, registration(alloc, b"f")?)?;
+    let machine = taken::<Brand>(
+        Blank::new(1),
+        blank(alloc, 1000)?,
+        registration(alloc, b"f")?,
+    )?;
     taken::<Brand>(Blank::new(1), machine, events(alloc)?)
 }
 
