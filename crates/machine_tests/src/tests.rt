@@ -8,6 +8,7 @@ use lists::{Bytes, Items, Memory};
 use machine::Machine;
 use std::alloc::Global;
 use std::marker::Brand;
+use std::process::Abort;
 use std::sync::ledger::{Blank, Ledger};
 use std::test::Fail;
 
@@ -107,32 +108,40 @@ fn blank(alloc: Global, kept: u64) -> Result<Machine, Memory> {
     )
 }
 
-#[test]
-fn a_remembered_id_is_kept(rt: HostRuntime) -> Result<(), Fail> {
-    let alloc = rt.alloc();
-    let machine = taken::<Brand>(Blank::new(1), blank(alloc, 10)?, events(alloc)?)?;
-    let full = machine.check(&events(alloc)?);
+/// A machine without functions that took an event.
+fn with_event(alloc: Global, kept: u64) -> Result<Machine, Fail> {
+    let event = events(alloc)?;
+    taken::<Brand>(Blank::new(1), blank(alloc, kept)?, event)
+}
+
+/// A machine with one function that waits for an event.
+fn with_function(alloc: Global) -> Result<Machine, Fail> {
+    let functions = registration(alloc, b"f")?;
+    taken::<Brand>(Blank::new(1), blank(alloc, 1000)?, functions)
+}
+
+/// The same with a run.
+fn with_run(alloc: Global) -> Result<Machine, Fail> {
+    let event = events(alloc)?;
+    taken::<Brand>(Blank::new(1), with_function(alloc)?, event)
+}
+
+fn id_fills(rt: &(impl Abort + AllocGlobal), machine: &Machine) -> Result<(), Fail> {
+    let full = machine.check(&events(rt.alloc())?);
     assert_eq!(rt; full, Err(Refusal::KeptFull { kept: 65 }));
     Ok(())
 }
 
-/// A machine with one function and one run.
-fn with_run(alloc: Global) -> Result<Machine, Fail> {
-    let machine = taken::<Brand>(
-        Blank::new(1),
-        blank(alloc, 1000)?,
-        registration(alloc, b"f")?,
-    )?;
-    taken::<Brand>(Blank::new(1), machine, events(alloc)?)
+#[test]
+fn a_remembered_id_is_kept(rt: HostRuntime) -> Result<(), Fail> {
+    let machine = with_event(rt.alloc(), 10)?;
+    id_fills(&rt, &machine)
 }
 
-#[test]
-fn one_run_and_one_function_are_all(rt: HostRuntime) -> Result<(), Fail> {
-    let alloc = rt.alloc();
-    let machine = with_run(alloc)?;
-    let full = machine.check(&events(alloc)?);
+fn turns_away(rt: &(impl Abort + AllocGlobal), machine: &Machine) -> Result<(), Fail> {
+    let full = machine.check(&events(rt.alloc())?);
     assert_eq!(rt; full, Err(Refusal::RunsFull { live: 1 }));
-    let full = machine.check(&registration(alloc, b"fg")?);
+    let full = machine.check(&registration(rt.alloc(), b"fg")?);
     assert_eq!(rt; full, Err(Refusal::FunctionsFull { functions: 2 }));
     let unknown = machine.check(&Input::CallFailed { at: 0, call: 2 });
     assert_eq!(rt; unknown, Err(Refusal::UnknownCall { call: 2 }));
@@ -141,9 +150,7 @@ fn one_run_and_one_function_are_all(rt: HostRuntime) -> Result<(), Fail> {
     Ok(())
 }
 
-#[test]
-fn a_run_is_told_of(rt: HostRuntime) -> Result<(), Fail> {
-    let machine = with_run(rt.alloc())?;
+fn tells(rt: &(impl Abort + AllocGlobal), machine: &Machine) -> Result<(), Fail> {
     let Some(run) = machine.run_view(1) else {
         return Err(Fail::new("no run"));
     };
@@ -153,4 +160,16 @@ fn a_run_is_told_of(rt: HostRuntime) -> Result<(), Fail> {
     assert_eq!(rt; machine.runs_of(1)?.as_slice(), [1].as_slice());
     assert_eq!(rt; machine.next_moment(), Some(7_200_000));
     Ok(())
+}
+
+#[test]
+fn one_run_and_one_function_are_all(rt: HostRuntime) -> Result<(), Fail> {
+    let machine = with_run(rt.alloc())?;
+    turns_away(&rt, &machine)
+}
+
+#[test]
+fn a_run_is_told_of(rt: HostRuntime) -> Result<(), Fail> {
+    let machine = with_run(rt.alloc())?;
+    tells(&rt, &machine)
 }
