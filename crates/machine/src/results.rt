@@ -7,12 +7,12 @@ use lists::{Bytes, Memory};
 use std::alloc::Global;
 
 /// The result of a step that gave data.
-pub(crate) fn data_result(alloc: Global, data: &[u8]) -> Result<Bytes, Memory>
-    ensures { IfOk result (λ text. text ≡ data_result data.now) }
+pub(crate) fn data_result(alloc: Global, value: &[u8]) -> Result<Bytes, Memory>
+    ensures { IfOk result (λ text. text ≡ data_result value.now) }
 {
-    let mut result = Bytes::with_room(alloc, data.len().saturating_add(9))?;
+    let mut result = Bytes::with_room(alloc, value.len().saturating_add(9))?;
     result.extend_from_slice(b"{\"data\":")?;
-    result.extend_from_slice(data)?;
+    result.extend_from_slice(value)?;
     result.push(b'}')?;
     Ok(result)
 }

@@ -377,13 +377,10 @@ pub record IsSound (s : State) : Type 0 where
 
 -- ## What is proved of them
 
--- Of each state that is reached, whatever inputs there were, this is a law: the first, third, fourth, sixth, eighth,
--- tenth, twelfth, thirteenth, sixteenth, nineteenth and twentieth condition, and parts of others: what is there is
--- named, and once; wanted runs, events of runs and windows, and remembered ids. Where functions are in range, the
--- eleventh and the eighteenth are laws, and so is the ninth while fewer than 2^64 entries were numbered; where no
--- registration names an id twice, so is the seventeenth. Open are that what is named is there (second), calls of
--- planned steps (fifth), that no run has two items or calls that find out (seventh), and the fourteenth; of the
--- fifteenth only items that find out are left out.
+-- Of each state that is reached, whatever inputs there were, this is a law here. The rest is proved in `soundness`,
+-- where all twenty conditions come together: of functions in their ranges, of registrations that name no id twice, and
+-- while fewer than 2^64 entries were numbered, since the eleventh and the eighteenth, the seventeenth, and the ninth
+-- condition need these.
 pub record IsReached (s : State) : Type 0 where
   pub numbered : IsNumbered s
   pub kept : KeepsNamed s

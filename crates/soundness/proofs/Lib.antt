@@ -1,8 +1,11 @@
+mod Asking
 mod Carried
 mod CarriedReplies
 mod CarriedSteps
 mod CountedCalls
 mod FreshRuns
+mod Greatest
+mod MadeCalls
 mod NamedThere
 mod OneDiscovery
 mod PlannedCalls
@@ -12,5 +15,9 @@ mod PlannedOnce
 mod QueuedNew
 mod RunNumbers
 mod Sound
+mod Standing
+mod StartRows
+mod StartsLet
 mod StepNames
 mod ToldTargets
+mod Untouched
