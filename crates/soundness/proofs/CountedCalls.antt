@@ -1,6 +1,6 @@
 -- How many queued items and open calls there are of a run and a target, where items and calls come and go.
-use Rattle.std.proofs.Common.{◌≡◌, ◌≢◌, ℕ, inl, inr, ◌+◌, ◌≤◌, ◌==◌, Bool, true, false, not, cond, List, [], ◌∷◌, ◌++◌, map, filter, length, refl, sym, ap, ◌∙◌, subst, nat_lt, arith, eq-eqb}
-use Rattle.std.specs.List.{AllByRecursion}
+use Rattle.std.proofs.Common.{◌≡◌, ◌≢◌, ℕ, inl, inr, ◌+◌, ◌≤◌, ◌==◌, Bool, true, false, not, ◌&&◌, ◌||◌, cond, List, [], ◌∷◌, ◌++◌, map, filter, length, refl, sym, ap, ap₂, ◌∙◌, subst, bytes_eq, nat_lt, arith, eq-eqb}
+use Rattle.std.specs.List.{AllByRecursion, list_any}
 use Rattle.kinds.specs.Queue.{insert_item}
 use Rattle.kinds.specs.declared.store.Item.{Item}
 use Rattle.run_model.specs.Fit.{item_of}
@@ -10,7 +10,8 @@ use Rattle.run_model.specs.State.{Issue}
 use Rattle.run_model.proofs.Apart.{not-same}
 use Rattle.run_model.proofs.Members.{in-all}
 use Rattle.run_model.proofs.Tidied.{filter-all}
-use Rattle.run_model.proofs.WaitingCounts.{counted, one_if, waits_at}
+use Rattle.run_model.proofs.WaitingCounts.{counted, one_if, own-step, waits_at}
+use Rattle.soundness.proofs.Carried.{IsFor}
 
 abbrev pub item_run : Item → ℕ
 item_run i = i.run
@@ -29,6 +30,29 @@ queued run name items = counted item_run item_target run name items
 
 abbrev pub opened : ℕ → List ℕ → List Issue → ℕ
 opened run name issues = counted issue_run issue_target run name issues
+
+-- ## Tests
+
+pub either-none : (a b : Bool) → (a || b) ≡ false → (a ≡ false) × (b ≡ false)
+either-none true b e = absurd (cc)
+either-none false b e = (refl, e)
+
+and-false : (a b : Bool) → b ≡ false → (a && b) ≡ false
+and-false true b e = e
+and-false false b e = refl
+
+-- another run
+pub other-run : (run at : ℕ) (name hash : List ℕ) → (run == at) ≡ false → is_step run name at hash ≡ false
+other-run run at name hash e = ap (λ b. b && bytes_eq name hash) e
+
+-- another name
+pub other-name : (run at : ℕ) (name hash : List ℕ) → bytes_eq name hash ≡ false → is_step run name at hash ≡ false
+other-name run at name hash e = and-false (run == at) (bytes_eq name hash) e
+
+pub this-step : (run at : ℕ) (name hash : List ℕ) → run ≡ at → name ≡ hash → is_step run name at hash ≡ true
+this-step run at name hash a b =
+    subst (λ n. is_step run name n hash ≡ true) a
+    (subst (λ n. is_step run name run n ≡ true) b (own-step run name))
 
 -- ## Any lists
 
@@ -55,6 +79,26 @@ module _ {X : Type 0} (run_of : X → ℕ) (hash_of : X → List ℕ) (run : ℕ
       let b = counted-first x xs in
       let c = counted-both xs ys in
       omega (arith, a, b, c)
+
+  pub counted-none : (xs : List X) → list_any passes xs ≡ false → counted run_of hash_of run name xs ≡ 0
+  counted-none [] h = refl
+  counted-none (x ∷ xs) h = by_test (passes x) h (counted-none xs)
+    where
+      by_test : (b : Bool) → (b || list_any passes xs) ≡ false
+          → (list_any passes xs ≡ false → counted run_of hash_of run name xs ≡ 0)
+          → length (cond b (x ∷ filter passes xs) (filter passes xs)) ≡ 0
+      by_test true e more = absurd (cc)
+      by_test false e more = more e
+
+  pub counted-some : (xs : List X) → list_any passes xs ≡ true → 1 ≤ counted run_of hash_of run name xs
+  counted-some [] h = absurd (cc)
+  counted-some (x ∷ xs) h = by_test (passes x) h (counted-some xs)
+    where
+      by_test : (b : Bool) → (b || list_any passes xs) ≡ true
+          → (list_any passes xs ≡ true → 1 ≤ counted run_of hash_of run name xs)
+          → 1 ≤ length (cond b (x ∷ filter passes xs) (filter passes xs))
+      by_test true e more = omega arith
+      by_test false e more = more e
 
   -- one goes by its number, which no other has
   pub counted-taken : (number_of : X → ℕ) (x : X) (xs : List X) → IsIn x xs
@@ -127,3 +171,8 @@ queued-opened run name (i ∷ is) =
     let b = counted-first issue_run issue_target run name i is in
     let c = queued-opened run name is in
     omega (arith, a, b, c)
+
+-- an item with the run and the target of another one counts as that one
+pub step-same : (run at : ℕ) (name hash : List ℕ) (i : Item) → IsFor at hash i
+    → one_if (is_step run name i.run i.target) ≡ one_if (is_step run name at hash)
+step-same run at name hash i own = ap₂ (λ (n : ℕ) (target : List ℕ). one_if (is_step run name n target)) own.0 own.1

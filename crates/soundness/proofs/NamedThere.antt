@@ -1,27 +1,22 @@
 -- The function version and the events of each run that is there and of each window are there: at each change, and so
 -- through each step.
-use Rattle.std.proofs.Common.{◌≡◌, ℕ, ◌⊎◌, inl, inr, ◌+◌, ◌==◌, Bool, true, false, not, ◌||◌, cond, List, [], ◌∷◌, ◌++◌, filter, find, Option, Some, None, is_some, refl, sym, ap, subst, eq-eqb, eqb-true}
+use Rattle.std.proofs.Common.{◌≡◌, ℕ, ◌⊎◌, inl, inr, ◌+◌, ◌==◌, Bool, true, false, not, ◌||◌, cond, List, [], ◌∷◌, ◌++◌, filter, find, Option, Some, None, IsSomeAnd, is_some, refl, sym, ap, subst, eq-eqb, eqb-true}
 use Rattle.std.specs.List.{AllByRecursion, list_any}
 use Rattle.std.specs.Ordering.{is_lt, nat_cmp}
 use Rattle.kinds.specs.Windows as windows
-use Rattle.kinds.specs.Windows.{after_event, is_full, is_of, joined, opened, others}
+use Rattle.kinds.specs.Windows.{after_event, is_full, is_of, others}
 use Rattle.kinds.specs.declared.event.Event.{Event}
 use Rattle.kinds.specs.declared.function.App.{App}
 use Rattle.kinds.specs.declared.input.Input.{Input}
 use Rattle.kinds.specs.declared.limits.Limits.{Limits}
-use Rattle.kinds.specs.declared.reply.Op.{Op}
-use Rattle.kinds.specs.declared.reply.Outcome.{Outcome}
-use Rattle.kinds.specs.declared.reply.Outcome.TheVariants as outcome
 use Rattle.kinds.specs.declared.store.Item.{Item}
+use Rattle.kinds.specs.declared.store.Parent.{Parent}
 use Rattle.kinds.specs.declared.window.Window.{Window}
-use Rattle.kinds.specs.declared.window.Window.TheVariants as window
 use Rattle.kinds.specs.declared.window.WindowRule.{WindowRule}
-use Rattle.kinds.specs.declared.window.WindowRule.TheVariants as rule
 use Rattle.functions.specs.Functions.{new_in, numbered, registered, stays, version_of}
 use Rattle.functions.specs.declared.entry.FunctionEntry.{FunctionEntry}
 use Rattle.lists.proofs.Elements.{all-both, all-filter, all-last, all-weaker}
 use Rattle.lists.specs.Entries.{insert_by}
-use Rattle.sdk_reply.specs.Outcome.{outcome_of}
 use Rattle.run_model.specs.Ends.{run_number}
 use Rattle.run_model.specs.Laws.{IsIn}
 use Rattle.run_model.specs.Machine.{fold, insert_all, with_functions}
@@ -29,18 +24,18 @@ use Rattle.run_model.specs.Recording.{changed, record_in}
 use Rattle.run_model.specs.Replies.{want, with_plan}
 use Rattle.run_model.specs.Settle.{called}
 use Rattle.run_model.specs.Sound.{HasFunction, HasNamed, HasTexts, HasWindowNamed}
-use Rattle.run_model.specs.State.{State, Run, EventText, empty, has_open_call, is_in, is_named, is_used, is_version_named, tidied, without_closed}
-use Rattle.run_model.specs.Events.{window_of}
+use Rattle.run_model.specs.State.{State, Run, EventText, has_open_call, is_in, is_named, is_used, is_version_named, without_closed, without_unnamed}
+use Rattle.run_model.specs.Events.{add_event, window_of}
 use Rattle.run_model.proofs.CallsOfRuns.{there-fold}
 use Rattle.run_model.proofs.FitRuns.{all-changed, all-inserted}
 use Rattle.run_model.proofs.FitWindows.{all-inserted_in, joined-version, opened-version}
-use Rattle.run_model.proofs.GoingOn.{Has, going-empty, in-kept}
+use Rattle.run_model.proofs.GoingOn.{Has, in-kept}
 use Rattle.run_model.proofs.Kept.{IsFunction, run_from, window_after, with_offer}
 use Rattle.run_model.proofs.Members.{any-in, each-in, in-all, in-back, in-either, in-found, in-front}
-use Rattle.run_model.proofs.SettlingLists.{all-append, or-left, or-right}
-use Rattle.soundness.proofs.Holding.{Core, HasText, HaveTexts, Holds, core, text-more}
-use Rattle.soundness.proofs.HoldingReplies.{AreNamedBy, IsNamedBy}
-use Rattle.soundness.proofs.HoldingSteps.{HoldsSteps, holds-after}
+use Rattle.run_model.proofs.SettlingLists.{all-append, any-found, or-left, or-right}
+use Rattle.soundness.proofs.Carried.{Any, Core, HasText, HaveTexts, HaveTextsWith, Carries, core, pended, text-more, texts-after}
+use Rattle.soundness.proofs.CarriedReplies.{CarriesSteps}
+use Rattle.soundness.proofs.CarriedSteps.{carried-fold}
 
 -- ## What holds
 
@@ -67,32 +62,30 @@ K is c = AreKnown (c.functions ++ c.retired) c.texts c.live c.closing c.windows
 
 -- ## Functions and texts that come
 
-version-more : (fs gs : List FunctionEntry) (version : ℕ) → ((f : FunctionEntry) → IsIn f fs → IsIn f gs)
-    → HasVersion fs version → HasVersion gs version
-version-more fs gs version stays h = (h.0, (stays h.0 h.1.0, h.1.1))
+-- what is named is there where more is
+known-more : (fs gs : List FunctionEntry) (texts more : List EventText) (live closing : List Run) (ws : List Window)
+    → ((f : FunctionEntry) → IsIn f fs → IsIn f gs) → ((n : ℕ) → HasText texts n → HasText more n)
+    → AreKnown fs texts live closing ws → AreKnown gs more live closing ws
+known-more fs gs texts more live closing ws stays kept h = record {
+  live_known = all-weaker (IsRunKnown fs texts) (IsRunKnown gs more) live (λ (r : Run) k. one r.version r.events k)
+      h.live_known;
+  closing_known = all-weaker (IsRunKnown fs texts) (IsRunKnown gs more) closing
+      (λ (r : Run) k. one r.version r.events k) h.closing_known;
+  windows_known = all-weaker (IsWindowKnown fs texts) (IsWindowKnown gs more) ws
+      (λ w k. one (windows.version_of w) (windows.events_of w) k) h.windows_known;
+}
+  where
+    one : (version : ℕ) (events : List ℕ) → Known fs texts version events → Known gs more version events
+    one version events k = (
+      (k.0.0, (stays k.0.0 k.0.1.0, k.0.1.1)),
+      all-weaker (HasText texts) (HasText more) events kept k.1,
+    )
 
-known-texts : (fs : List FunctionEntry) (texts : List EventText) (e : EventText) (version : ℕ) (ns : List ℕ)
-    → Known fs texts version ns → Known fs (texts ++ e ∷ []) version ns
-known-texts fs texts e version ns h = (
-  h.0,
-  all-weaker (HasText texts) (HasText (texts ++ e ∷ [])) ns (λ n k. text-more e texts n k) h.1,
-)
-
-known-added : (event : Event) (s : State) → AreKnown (s.functions ++ s.retired) s.texts s.live s.closing s.windows
-    → AreKnown (s.functions ++ s.retired) (s.texts ++ (record { number = event.number; text = event.text }) ∷ [])
-    s.live s.closing s.windows
+known-added : (event : Event) (s : State) → K [] (core s) → K [] (core (add_event event s))
 known-added event s h =
-    let fs : List FunctionEntry = s.functions ++ s.retired in
     let e : EventText = record { number = event.number; text = event.text } in
-    let more : List EventText = s.texts ++ e ∷ [] in
-    record {
-      live_known = all-weaker (IsRunKnown fs s.texts) (IsRunKnown fs more) s.live
-          (λ (r : Run) k. known-texts fs s.texts e r.version r.events k) h.live_known;
-      closing_known = all-weaker (IsRunKnown fs s.texts) (IsRunKnown fs more) s.closing
-          (λ (r : Run) k. known-texts fs s.texts e r.version r.events k) h.closing_known;
-      windows_known = all-weaker (IsWindowKnown fs s.texts) (IsWindowKnown fs more) s.windows
-          (λ w k. known-texts fs s.texts e (windows.version_of w) (windows.events_of w) k) h.windows_known;
-    }
+    known-more (s.functions ++ s.retired) (s.functions ++ s.retired) s.texts (s.texts ++ e ∷ []) s.live s.closing
+    s.windows (λ f there. there) (λ n k. text-more e s.texts n k) h
 
 -- ## Runs
 
@@ -134,19 +127,12 @@ has-version f s there = (f, (there, eq-eqb f.version f.version refl))
 
 -- ## Windows
 
-joined-texts : (texts : List EventText) (r : WindowRule) (event t : ℕ) (w : Window) → HasText texts event
-    → HaveTexts texts (windows.events_of w) → HaveTexts texts (windows.events_of (joined r event t w))
-joined-texts texts (rule.Debounce d) event t (window.Debounce number version value last first due) own h =
-    (own, tt)
-joined-texts texts (rule.Debounce d) event t (window.Batch number version value es due) own h = h
-joined-texts texts (rule.Batch b) event t (window.Debounce number version value last first due) own h = h
-joined-texts texts (rule.Batch b) event t (window.Batch number version value es due) own h =
-    all-last (HasText texts) es event h own
-
-opened-texts : (texts : List EventText) (r : WindowRule) (version : ℕ) (value : List ℕ) (event t number : ℕ)
-    → HasText texts event → HaveTexts texts (windows.events_of (opened r version value event t number))
-opened-texts texts (rule.Debounce d) version value event t number own = (own, tt)
-opened-texts texts (rule.Batch b) version value event t number own = (own, tt)
+-- the texts of each window are there
+windows-there : (s : State) → K [] (core s)
+    → AllByRecursion (λ (w : Window). HaveTexts s.texts (windows.events_of w)) s.windows
+windows-there s h =
+    all-weaker (IsWindowKnown (s.functions ++ s.retired) s.texts)
+    (λ (w : Window). HaveTexts s.texts (windows.events_of w)) s.windows (λ w k. k.1) h.windows_known
 
 module _ (f : FunctionEntry) (r : WindowRule) (value : List ℕ) (event : ℕ) (s : State) (there : IsFunction f s)
     (own : HasText s.texts event)
@@ -154,23 +140,21 @@ module _ (f : FunctionEntry) (r : WindowRule) (value : List ℕ) (event : ℕ) (
   abbrev fs : List FunctionEntry
   fs = s.functions ++ s.retired
 
-  known-after : (before : Option Window) → window_of f.version value s ≡ before
-      → IsWindowKnown fs s.texts (after_event r f.version value event s.moment (s.entries + 1) before)
-  known-after None e = (
-    subst (HasVersion fs) (sym (opened-version r f.version value event s.moment (s.entries + 1)))
-        (has-version f s there),
-    opened-texts s.texts r f.version value event s.moment (s.entries + 1) own,
-  )
-  known-after (Some w) e =
-      let before : IsWindowKnown fs s.texts w =
-      in-all (IsWindowKnown fs s.texts) w s.windows (in-found (is_of f.version value) s.windows w e)
-      h.windows_known in (
-        subst (HasVersion fs) (sym (joined-version r event s.moment w)) before.0,
-        joined-texts s.texts r event s.moment w own before.1,
-      )
+  version-after : (before : Option Window) → window_of f.version value s ≡ before
+      → HasVersion fs (windows.version_of (after_event r f.version value event s.moment (s.entries + 1) before))
+  version-after None e =
+      subst (HasVersion fs) (sym (opened-version r f.version value event s.moment (s.entries + 1)))
+      (has-version f s there)
+  version-after (Some w) e =
+      subst (HasVersion fs) (sym (joined-version r event s.moment w))
+      (in-all (IsWindowKnown fs s.texts) w s.windows (in-found (is_of f.version value) s.windows w e)
+      h.windows_known).0
 
   known-own : IsWindowKnown fs s.texts (window_after f r value event s)
-  known-own = known-after (window_of f.version value s) refl
+  known-own = (
+    version-after (window_of f.version value s) refl,
+    texts-after f r value event s own (windows-there s h),
+  )
 
   known-standing : (full : Bool) (w : Window) → IsWindowKnown fs s.texts w
       → AllByRecursion (IsWindowKnown fs s.texts)
@@ -195,52 +179,41 @@ module _ (f : FunctionEntry) (r : WindowRule) (value : List ℕ) (event : ℕ) (
 
 -- ## The changes
 
-abbrev Anything : List ℕ → Type 0
-Anything name = Unit {0}
+-- a run whose function is there, with events whose texts are
+known-made : (f : FunctionEntry) (events : List ℕ) (parent : Option Parent) (s : State) → IsFunction f s
+    → HaveTextsWith s events → AreKnown (s.functions ++ s.retired) s.texts s.live s.closing s.windows
+    → AreKnown (s.functions ++ s.retired) s.texts (s.live ++ run_from f events parent s ∷ []) s.closing s.windows
+known-made f events parent s there texts h =
+    known-run (s.functions ++ s.retired) s.texts s.live s.closing s.windows (run_from f events parent s)
+    (has-version f s there, texts (windows-there s h)) h
 
-known-changes : Holds Anything K
+-- a run that changes has its function and events still
+known-run_changed : (number : ℕ) (f : Run → Run) (s : State)
+    → ((r : Run) → IsRunKnown (s.functions ++ s.retired) s.texts r
+    → IsRunKnown (s.functions ++ s.retired) s.texts (f r))
+    → AreKnown (s.functions ++ s.retired) s.texts s.live s.closing s.windows
+    → AreKnown (s.functions ++ s.retired) s.texts (changed number f s.live) s.closing s.windows
+known-run_changed number f s keeps h =
+    known-changed (s.functions ++ s.retired) s.texts s.live s.closing s.windows number f keeps h
+
+known-changes : Carries Any K
 known-changes = record {
-  accepts = λ is event s next h. known-added event s h;
-  starts = λ is f event parent s there own h.
-      known-run (s.functions ++ s.retired) s.texts s.live s.closing s.windows
-      (run_from f (event ∷ []) parent s) (has-version f s there, (own, tt)) h;
-  fills = λ is f r value event s there own h.
-      known-run (s.functions ++ s.retired) s.texts s.live s.closing (with_offer f r value event s).windows
-      (run_from f (windows.events_of (window_after f r value event s)) None (with_offer f r value event s))
-      (has-version f s there, (known-own f r value event s there own h).1)
-      (known-offered f r value event s there own h);
-  fires = λ is f w s there stands h.
-      known-run (s.functions ++ s.retired) s.texts s.live s.closing
-      (filter (λ other. not (windows.has_number (windows.number_of w) other)) s.windows)
-      (run_from f (windows.events_of w) None s) (
-        has-version f s there,
-        (in-all (IsWindowKnown (s.functions ++ s.retired) s.texts) w s.windows stands h.windows_known).1,
-      )
-      (known-windows (s.functions ++ s.retired) s.texts s.live s.closing s.windows
-      (filter (λ other. not (windows.has_number (windows.number_of w) other)) s.windows)
-      (all-filter (IsWindowKnown (s.functions ++ s.retired) s.texts)
-      (λ other. not (windows.has_number (windows.number_of w) other)) s.windows h.windows_known) h);
-  joins = λ is f r value event s there own h. known-offered f r value event s there own h;
-  windows_go = λ is number s h.
+  accepts = λ is event s next any h. known-added event s h;
+  makes = λ is f events parent i s there texts own any h. known-made f events parent s there texts h;
+  joins = λ is f r value event s there own any h. known-offered f r value event s there own h;
+  windows_go = λ is number s any h.
       known-windows (s.functions ++ s.retired) s.texts s.live s.closing s.windows
       (filter (λ other. not (windows.has_number number other)) s.windows)
       (all-filter (IsWindowKnown (s.functions ++ s.retired) s.texts)
       (λ other. not (windows.has_number number other)) s.windows h.windows_known) h;
-  finds_out = λ is r s there h. h;
-  wants = λ is number s h.
-      known-changed (s.functions ++ s.retired) s.texts s.live s.closing s.windows number want (λ q k. k) h;
-  plans = λ is r name s live new own h.
-      known-changed (s.functions ++ s.retired) s.texts s.live s.closing s.windows r.number (with_plan name)
-      (λ q k. k) h;
-  pends = λ is kind r name s live new own h.
-      known-changed (s.functions ++ s.retired) s.texts s.live s.closing s.windows r.number _ (λ q k. k) h;
-  results = λ is r name result s live new own h.
-      known-changed (s.functions ++ s.retired) s.texts s.live s.closing s.windows r.number (record_in name result)
-      (λ q k. k) h;
-  wakes = λ is run r name result s live waits h.
-      known-changed (s.functions ++ s.retired) s.texts s.live s.closing s.windows run (record_in name result)
-      (λ q k. k) h;
-  ends = λ is r status s live h.
+  finds_out = λ r s there none any h. h;
+  wants = λ is number s any h. known-run_changed number want s (λ q k. k) h;
+  plans = λ i r name s live new own any h. known-run_changed r.number (with_plan name) s (λ q k. k) h;
+  pends = λ i kind r name s live new own any h. known-run_changed r.number (pended kind name) s (λ q k. k) h;
+  results = λ i r name result s live own any h.
+      known-run_changed r.number (record_in name result) s (λ q k. k) h;
+  wakes = λ is run r name result s live waits any h. known-run_changed run (record_in name result) s (λ q k. k) h;
+  ends = λ is r status s live any h.
       known-ended (s.functions ++ s.retired) s.texts s.live s.closing s.windows r
       (in-all (IsRunKnown (s.functions ++ s.retired) s.texts) r s.live
       (in-found (λ (q : Run). r.number == q.number) s.live r live) h.live_known) h;
@@ -301,36 +274,17 @@ still-there app s f there = of_either (in-either f s.functions s.retired there)
     of_either (inr old) = in-back f current (insert_all gone s.retired) (in-all_more gone s.retired f old)
 
 known-registered : (app : App) (s : State) → K [] (core s) → K [] (core (with_functions app s))
-known-registered app s h = record {
-  live_known = all-weaker (IsRunKnown fs s.texts) (IsRunKnown gs s.texts) s.live
-      (λ (r : Run) k. (version-more fs gs r.version (still-there app s) k.0, k.1)) h.live_known;
-  closing_known = all-weaker (IsRunKnown fs s.texts) (IsRunKnown gs s.texts) s.closing
-      (λ (r : Run) k. (version-more fs gs r.version (still-there app s) k.0, k.1)) h.closing_known;
-  windows_known = all-weaker (IsWindowKnown fs s.texts) (IsWindowKnown gs s.texts) s.windows
-      (λ w k. (version-more fs gs (windows.version_of w) (still-there app s) k.0, k.1)) h.windows_known;
-}
-  where
-    fs : List FunctionEntry
-    fs = s.functions ++ s.retired
-
-    gs : List FunctionEntry
-    gs = (with_functions app s).functions ++ (with_functions app s).retired
+known-registered app s h =
+    known-more (s.functions ++ s.retired) ((with_functions app s).functions ++ (with_functions app s).retired) s.texts
+    s.texts s.live s.closing s.windows (still-there app s) (λ n k. k) h
 
 -- ## What goes at the end of a step
 
 first-of : (a b c : Bool) → a ≡ true → (a || b || c) ≡ true
-first-of true b c h = refl
-first-of false b c h = absurd (cc)
+first-of a b c h = or-left (a || b) c (or-left a b h)
 
 second-of : (a b c : Bool) → b ≡ true → (a || b || c) ≡ true
-second-of true b c h = refl
-second-of false true c h = refl
-second-of false false c h = absurd (cc)
-
-third-of : (a b c : Bool) → c ≡ true → (a || b || c) ≡ true
-third-of true b c h = refl
-third-of false true c h = refl
-third-of false false c h = h
+second-of a b c h = or-left (a || b) c (or-right a b h)
 
 version-kept : (t : State) (current retired : List FunctionEntry) (version : ℕ)
     → ((f : FunctionEntry) → f.version ≡ version → is_version_named t f ≡ true)
@@ -359,109 +313,74 @@ texts-kept t texts ns named h =
       ),
     )) h (each-in ns)
 
--- the state that is left has what it names
-module _ (t : State) (current retired : List FunctionEntry) (texts : List EventText) where
-  kept-run : (r : Run) → ((f : FunctionEntry) → f.version ≡ r.version → is_version_named t f ≡ true)
-      → ((e : EventText) → is_in e.number r.events ≡ true → is_named t e ≡ true)
-      → IsRunKnown (current ++ retired) texts r
-      → IsRunKnown (current ++ filter (is_version_named t) retired) (filter (is_named t) texts) r
-  kept-run r versions events k = (
-    version-kept t current retired r.version versions k.0,
-    texts-kept t texts r.events events k.1,
-  )
+-- what the state that is left names is there still
+kept-all : {X : Type 0} (t : State) (current retired : List FunctionEntry) (texts : List EventText) (version_of : X → ℕ)
+    (events_of : X → List ℕ) (xs : List X)
+    → ((x : X) → IsIn x xs → (f : FunctionEntry) → f.version ≡ version_of x → is_version_named t f ≡ true)
+    → ((x : X) → IsIn x xs → (e : EventText) → is_in e.number (events_of x) ≡ true → is_named t e ≡ true)
+    → AllByRecursion (λ x. Known (current ++ retired) texts (version_of x) (events_of x)) xs
+    → AllByRecursion (λ x. Known (current ++ filter (is_version_named t) retired) (filter (is_named t) texts)
+    (version_of x) (events_of x)) xs
+kept-all t current retired texts version_of events_of xs versions events h =
+    all-both (λ x. Known (current ++ retired) texts (version_of x) (events_of x)) (λ x. IsIn x xs)
+    (λ x. Known (current ++ filter (is_version_named t) retired) (filter (is_named t) texts) (version_of x)
+    (events_of x)) xs
+    (λ x k there. (
+      version-kept t current retired (version_of x) (versions x there) k.0,
+      texts-kept t texts (events_of x) (events x there) k.1,
+    )) h (each-in xs)
 
-  kept-live : AllByRecursion (IsRunKnown (current ++ retired) texts) t.live
-      → AllByRecursion (IsRunKnown (current ++ filter (is_version_named t) retired) (filter (is_named t) texts))
-      t.live
-  kept-live h = all-both (IsRunKnown (current ++ retired) texts) (λ r. IsIn r t.live)
-      (IsRunKnown (current ++ filter (is_version_named t) retired) (filter (is_named t) texts)) t.live
-      (λ r k there. kept-run r
-      (λ f same. first-of _ _ _
-      (any-in (λ (q : Run). f.version == q.version) r t.live there (eq-eqb f.version r.version same)))
-      (λ e own. first-of _ _ _ (any-in (λ (q : Run). is_in e.number q.events) r t.live there own)) k)
-      h (each-in t.live)
-
-  kept-closing : AllByRecursion (IsRunKnown (current ++ retired) texts) t.closing
-      → AllByRecursion (IsRunKnown (current ++ filter (is_version_named t) retired) (filter (is_named t) texts))
-      t.closing
-  kept-closing h = all-both (IsRunKnown (current ++ retired) texts) (λ r. IsIn r t.closing)
-      (IsRunKnown (current ++ filter (is_version_named t) retired) (filter (is_named t) texts)) t.closing
-      (λ r k there. kept-run r
-      (λ f same. second-of _ _ _
-      (any-in (λ (q : Run). f.version == q.version) r t.closing there (eq-eqb f.version r.version same)))
-      (λ e own. or-right (is_used t e) _ (any-in (λ (q : Run). is_in e.number q.events) r t.closing there own)) k)
-      h (each-in t.closing)
-
-  kept-windows : AllByRecursion (IsWindowKnown (current ++ retired) texts) t.windows
-      → AllByRecursion (IsWindowKnown (current ++ filter (is_version_named t) retired) (filter (is_named t) texts))
-      t.windows
-  kept-windows h = all-both (IsWindowKnown (current ++ retired) texts) (λ w. IsIn w t.windows)
-      (IsWindowKnown (current ++ filter (is_version_named t) retired) (filter (is_named t) texts)) t.windows
-      (λ w k there. (
-        version-kept t current retired (windows.version_of w)
-            (λ f same. third-of (list_any (λ (r : Run). f.version == r.version) t.live)
-            (list_any (λ (r : Run). f.version == r.version) t.closing) _
-            (any-in (λ v. f.version == windows.version_of v) w t.windows there
-            (eq-eqb f.version (windows.version_of w) same))) k.0,
-        texts-kept t texts (windows.events_of w)
-            (λ e own. or-left (is_used t e) _
-            (or-right (list_any (λ (r : Run). is_in e.number r.events) t.live) _
-            (any-in (λ v. is_in e.number (windows.events_of v)) w t.windows there own))) k.1,
-      )) h (each-in t.windows)
-
-known-tidied : (s : State) → K [] (core s) → K [] (core (tidied s))
-unfolding tidied
+known-tidied : (s : State) → K [] (core s) → K [] (core (without_unnamed (without_closed s)))
 known-tidied s h =
     let t : State = without_closed s in
     record {
-      live_known = kept-live t s.functions s.retired s.texts h.live_known;
-      closing_known = kept-closing t s.functions s.retired s.texts
+      live_known = kept-all t s.functions s.retired s.texts (λ (r : Run). r.version) (λ (r : Run). r.events) t.live
+          (λ r there f same. first-of _ _ _
+          (any-in (λ (q : Run). f.version == q.version) r t.live there (eq-eqb f.version r.version same)))
+          (λ r there e own. first-of _ _ _ (any-in (λ (q : Run). is_in e.number q.events) r t.live there own))
+          h.live_known;
+      closing_known = kept-all t s.functions s.retired s.texts (λ (r : Run). r.version) (λ (r : Run). r.events)
+          t.closing
+          (λ r there f same. second-of _ _ _
+          (any-in (λ (q : Run). f.version == q.version) r t.closing there (eq-eqb f.version r.version same)))
+          (λ r there e own. or-right (is_used t e) _
+          (any-in (λ (q : Run). is_in e.number q.events) r t.closing there own))
           (all-filter (IsRunKnown (s.functions ++ s.retired) s.texts)
           (λ (r : Run). has_open_call s.issues r.number) s.closing h.closing_known);
-      windows_known = kept-windows t s.functions s.retired s.texts h.windows_known;
+      windows_known = kept-all t s.functions s.retired s.texts windows.version_of windows.events_of t.windows
+          (λ w there f same. or-right (list_any (λ (r : Run). f.version == r.version) t.live
+          || list_any (λ (r : Run). f.version == r.version) t.closing) _
+          (any-in (λ v. f.version == windows.version_of v) w t.windows there
+          (eq-eqb f.version (windows.version_of w) same)))
+          (λ w there e own. or-left (is_used t e) _
+          (or-right (list_any (λ (r : Run). is_in e.number r.events) t.live) _
+          (any-in (λ v. is_in e.number (windows.events_of v)) w t.windows there own)))
+          h.windows_known;
     }
 
 -- ## Steps
 
-all-any : (ops : List Op) → AreNamedBy Anything ops
-all-any [] = tt
-all-any (o ∷ ops) = (tt, all-any ops)
-
-any-outcome : (o : Outcome) → IsNamedBy Anything o
-any-outcome (outcome.Ended output) = tt
-any-outcome (outcome.Ops ops no_retry a) = all-any ops
-any-outcome (outcome.Retry a error) = tt
-any-outcome (outcome.NoRetry error) = tt
-any-outcome (outcome.Unreadable at) = tt
-
-known-steps : HoldsSteps Anything K
+known-steps : CarriesSteps Any K
 known-steps = record {
-  calls = record {
-    changes = known-changes;
-    reads = λ reply. any-outcome (outcome_of reply);
-    closes = λ i s going there h. h;
-    reopens = λ s h. h;
-    drops = λ i is s done h. h;
-    leaves = λ i no_retry ops s has own over before h. h;
-    queues = λ i j is r s run target live new h. h;
-  };
-  issues = λ number i s going there h.
-      known-changed (s.functions ++ s.retired) s.texts s.live s.closing s.windows i.run (called i.target) (λ q k. k)
-      h;
-  registers = known-registered;
-  tidies = known-tidied;
+  changes = known-changes;
+  closes = λ i s rise there any h. h;
+  reopens = λ s any h. h;
+  drops = λ i is s done any h. h;
+  leaves = λ i no_retry ops s has own over any_before before any h. h;
+  queues = λ i j is r s its start live new any h. h;
+  issues = λ i s apart there any h. known-run_changed i.run (called i.target) s (λ q k. k) h;
+  registers = λ app s any h. known-registered app s h;
+  tidies = λ s any h. known-tidied s h;
 }
 
 -- ## What follows
 
 found-has : {X : Type 0} (p : X → Bool) (xs : List X) → Has p xs → is_some (find p xs) ≡ true
-found-has {X = X} p xs h = found xs h.1.0
+found-has {X = X} p xs h = some (find p xs) (any-found p xs (any-in p h.0 xs h.1.0 h.1.1))
   where
-    found : (ys : List X) → IsIn h.0 ys → is_some (find p ys) ≡ true
-    found [] there = absurd there
-    found (y ∷ ys) (inl same) = rw (subst (λ z. p z ≡ true) (sym same) h.1.1) refl
-    found (y ∷ ys) (inr there) =
-        elim (p y) as (λ b. is_some (cond b (Some y) (find p ys)) ≡ true) [ true ↦ refl | false ↦ found ys there ]
+    some : (o : Option X) → IsSomeAnd o (λ x. p x ≡ true) → is_some o ≡ true
+    some None k = absurd k
+    some (Some x) k = refl
 
 all-texts : (s : State) (ns : List ℕ) → HaveTexts s.texts ns → HasTexts s ns
 all-texts s ns h = all-weaker (HasText s.texts) (λ n. is_some (find (λ (e : EventText). n == e.number) s.texts) ≡ true)
@@ -473,7 +392,7 @@ function-there s version h = found-has (λ (f : FunctionEntry). version == f.ver
 pub named-fold : (limits : Limits) (inputs : List Input) → HasNamed (fold limits inputs)
 named-fold limits inputs =
     let s : State = fold limits inputs in
-    let h : K [] (core s) = holds-after Anything K known-steps inputs (empty limits) (going-empty limits)
+    let h : K [] (core s) = carried-fold K known-steps limits inputs
     (record { live_known = tt; closing_known = tt; windows_known = tt }) in
     let P : Run → Type 0 = λ (r : Run). HasFunction s r.version × HasTexts s r.events in
     record {

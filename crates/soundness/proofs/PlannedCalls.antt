@@ -1,31 +1,34 @@
 -- A planned name of a run has one item or one open call, and an item or a call of another name is of a recorded one:
 -- where runs, items and calls change.
-use Rattle.std.proofs.Common.{◌≡◌, ℕ, zero, suc, ◌+◌, ◌≤◌, ◌==◌, Bool, true, false, not, ◌&&◌, ◌||◌, cond, List, [], ◌∷◌, ◌++◌, filter, find, Option, Some, None, IfSome, is_some, option_map, refl, sym, ap, ◌∙◌, subst, bytes_eq, arith, eqb-true}
+use Rattle.std.proofs.Common.{◌≡◌, ℕ, zero, suc, ◌+◌, ◌≤◌, ◌==◌, Bool, true, false, not, ◌||◌, cond, List, [], ◌∷◌, ◌++◌, filter, find, Option, Some, None, IfSome, is_some, option_map, refl, sym, ap, ◌∙◌, subst, bytes_eq, arith, eqb-true}
 use Rattle.std.specs.BTreeMap.{is_at}
 use Rattle.std.specs.Cmp.Lexicographic.{slice_cmp}
 use Rattle.std.specs.List.{AllByRecursion}
 use Rattle.std.specs.Ordering.{nat_cmp}
-use Rattle.kinds.specs.Queue.{has_run, insert_item, without_run}
-use Rattle.kinds.specs.RunSteps.{RunSteps, has_name, is_known, is_pending, is_planned, is_recorded, known, note_pending, note_plan, pend_step, plan_step, record_step, with_room}
+use Rattle.kinds.specs.Queue.{insert_item, without_run}
+use Rattle.kinds.specs.RunSteps.{RunSteps, no_steps, has_name, is_known, is_pending, is_planned, is_recorded, known, note_pending, note_plan, pend_step, plan_step, record_step, with_room}
 use Rattle.kinds.specs.declared.store.Item.{Item}
 use Rattle.kinds.specs.declared.store.Pending.{Pending}
-use Rattle.lists.proofs.Elements.{all-filter, all-last, all-weaker}
+use Rattle.lists.proofs.Elements.{all-filter, all-last}
 use Rattle.lists.proofs.Texts.{bytes_same}
-use Rattle.run_model.specs.Making.{is_item_of}
+use Rattle.run_model.specs.Making.{step_target}
 use Rattle.run_model.specs.Recording.{changed, record_in, result_for, without_item}
-use Rattle.run_model.specs.Replies.{with_plan, with_steps}
+use Rattle.run_model.specs.Replies.{with_plan}
 use Rattle.run_model.specs.Sound.{is_step}
 use Rattle.run_model.specs.State.{Run, Issue}
+use Rattle.run_model.proofs.Awaiting.{found-some}
 use Rattle.run_model.proofs.FitEvents.{find-last, found-left, none-left}
-use Rattle.run_model.proofs.FitRuns.{all-changed, all-queued}
+use Rattle.run_model.proofs.FitRuns.{all-changed}
 use Rattle.run_model.proofs.Kept.{Adds}
 use Rattle.run_model.proofs.Members.{in-all, in-found}
 use Rattle.run_model.proofs.SettlingLists.{found-passes, same-some}
 use Rattle.run_model.proofs.Unrecorded.{change, found-changed}
-use Rattle.run_model.proofs.WaitingCounts.{counted-cleared, counted-left, flip-eq, one_if, own-step}
+use Rattle.run_model.proofs.WaitingCounts.{counted-cleared, counted-left, flip-eq, one_if}
 use Rattle.run_model.proofs.WaitingNames.{found-inserted, under}
-use Rattle.soundness.proofs.CountedCalls.{counted-over, issue_run, issue_target, item_run, item_target, opened, queued, queued-more}
-use Rattle.soundness.proofs.PlannedNames.{AreInOrder, found-last, key-gone, key-inserted, key-left, keys-inserted, keys-removed, none-removed, order-inserted, order-removed}
+use Rattle.soundness.proofs.Carried.{IsFor, pended}
+use Rattle.soundness.proofs.CountedCalls.{counted-over, either-none, issue_run, issue_target, item_run, item_target, opened, other-name, other-run, queued, queued-more, step-same, this-step}
+use Rattle.soundness.proofs.PlannedNames.{AreInOrder, key-gone, key-inserted, key-left, keys-inserted, keys-removed, none-removed, order-inserted, order-removed}
+use Rattle.soundness.proofs.RunNumbers.{AreGiven}
 
 -- ## What holds of a name
 
@@ -34,9 +37,9 @@ pub record Stands (planned : Bool) (items others : ℕ) (recorded pending : Bool
   pub once : planned ≡ true → (items + others ≡ 1) × ((recorded ≡ false) × (pending ≡ false))
   pub none : planned ≡ false → (items ≡ 0) × (1 ≤ others → recorded ≡ true)
 
-pub stands-same : (p q w p_now q_now w_now : Bool) (a b a_now b_now : ℕ) → p_now ≡ p → q_now ≡ q → a_now ≡ a → b_now ≡ b
+pub stands-same : {p q w p_now q_now w_now : Bool} {a b a_now b_now : ℕ} → p_now ≡ p → q_now ≡ q → a_now ≡ a → b_now ≡ b
     → (w ≡ false → w_now ≡ false) → Stands p a b q w → Stands p_now a_now b_now q_now w_now
-stands-same p q w p_now q_now w_now a b a_now b_now ep eq ea eb ew h = record {
+stands-same {a = a} {b = b} {b_now = b_now} ep eq ea eb ew h = record {
   once = λ e. let k = h.once (sym ep ∙ e) in
       let one : a + b ≡ 1 = k.0 in
       (omega (arith, ea, eb, one), (eq ∙ k.1.0, ew k.1.1));
@@ -60,35 +63,35 @@ stands-planned p q w w_now a b a_now ep eq ew ea h = record {
     one : (a ≡ 0) × (1 ≤ b → q ≡ true) → a_now + b ≡ 1
     one k = by_others b refl k.0 k.1
 
-stands-recorded : (p q w : Bool) (a b : ℕ) → p ≡ false → q ≡ true → a ≡ 0 → Stands p a b q w
-stands-recorded p q w a b ep eq ea = record {
+stands-recorded : {p q w : Bool} {a b : ℕ} → p ≡ false → q ≡ true → a ≡ 0 → Stands p a b q w
+stands-recorded ep eq ea = record {
   once = λ e. absurd (cc);
   none = λ e. (ea, λ some. eq);
 }
 
 -- a name that isn't planned may wait
-stands-pended : (p q w w_now : Bool) (a b : ℕ) → p ≡ false → Stands p a b q w → Stands p a b q w_now
-stands-pended p q w w_now a b ep h = record { once = λ e. absurd (cc); none = h.none }
+stands-pended : {p q w w_now : Bool} {a b : ℕ} → p ≡ false → Stands p a b q w → Stands p a b q w_now
+stands-pended ep h = record { once = λ e. absurd (cc); none = h.none }
 
 -- one of the others is left out, of a recorded name
-pub stands-fewer : (p q w : Bool) (a b b_now : ℕ) → q ≡ true → b ≡ b_now + 1 → Stands p a b q w → Stands p a b_now q w
-stands-fewer p q w a b b_now eq eb h = record {
+pub stands-fewer : {p q w : Bool} {a b b_now : ℕ} → q ≡ true → b ≡ b_now + 1 → Stands p a b q w → Stands p a b_now q w
+stands-fewer {q = q} eq eb h = record {
   once = λ e. let no : q ≡ false = (h.once e).1.0 in absurd (cc);
   none = λ e. ((h.none e).0, λ some. eq);
 }
 
 -- one of the others is queued
-pub stands-again : (p q w : Bool) (a b a_now b_now : ℕ) → q ≡ false → a_now ≡ a + 1 → b ≡ b_now + 1 → Stands p a b q w
+pub stands-again : {p q w : Bool} {a b a_now b_now : ℕ} → q ≡ false → a_now ≡ a + 1 → b ≡ b_now + 1 → Stands p a b q w
     → Stands p a_now b_now q w
-stands-again p q w a b a_now b_now eq ea eb h = record {
+stands-again {q = q} {a = a} {b = b} eq ea eb h = record {
   once = λ e. let one : a + b ≡ 1 = (h.once e).0 in (omega (arith, ea, eb, one), (h.once e).1);
   none = λ e. let no : q ≡ true = (h.none e).1 (omega (arith, eb)) in absurd (cc);
 }
 
 -- a queued one is called
-pub stands-called : (p q w : Bool) (a b a_now b_now : ℕ) → a_now + 1 ≡ a → b_now ≡ b + 1 → Stands p a b q w
+pub stands-called : {p q w : Bool} {a b a_now b_now : ℕ} → a_now + 1 ≡ a → b_now ≡ b + 1 → Stands p a b q w
     → Stands p a_now b_now q w
-stands-called p q w a b a_now b_now ea eb h = record {
+stands-called {a = a} {b = b} ea eb h = record {
   once = λ e. let one : a + b ≡ 1 = (h.once e).0 in (omega (arith, ea, eb, one), (h.once e).1);
   none = λ e. let nothing : a ≡ 0 = (h.none e).0 in absurd (omega (arith, ea, nothing));
 }
@@ -101,20 +104,15 @@ IsCalled run name items issues is r =
     (is_recorded name r.steps) (is_pending name r.steps)
 
 -- a name of a step is another than what finds out what comes next
-abbrev pub IsName : List ℕ → List ℕ → Type 0
-IsName step name = bytes_eq name step ≡ false
+abbrev pub IsOther : List ℕ → Type 0
+IsOther name = bytes_eq name step_target ≡ false
 
-abbrev pub HasOrder : List ℕ → Run → Type 0
-HasOrder step r = AreInOrder r.steps.planned × AllByRecursion (IsName step) r.steps.planned
+abbrev pub HasOrder : Run → Type 0
+HasOrder r = AreInOrder r.steps.planned × AllByRecursion IsOther r.steps.planned
 
-pub record AreCalled (step : List ℕ) (is : List Item) (runs : ℕ) (live : List Run) (items : List Item)
-    (issues : List Issue) : Type 0 where
-  pub live_given : AllByRecursion (λ (r : Run). r.number ≤ runs) live
-  pub items_given : AllByRecursion (λ (i : Item). i.run ≤ runs) items
-  pub issues_given : AllByRecursion (λ (i : Issue). i.item.run ≤ runs) issues
-  pub aside_given : AllByRecursion (λ (i : Item). i.run ≤ runs) is
-  pub ordered : AllByRecursion (HasOrder step) live
-  pub called : (run : ℕ) (name : List ℕ) → IsName step name
+pub record AreCalled (is : List Item) (live : List Run) (items : List Item) (issues : List Issue) : Type 0 where
+  pub ordered : AllByRecursion HasOrder live
+  pub called : (run : ℕ) (name : List ℕ) → IsOther name
       → IfSome (find (λ (r : Run). run == r.number) live) (IsCalled run name items issues is)
 
 -- ## What is found
@@ -139,27 +137,9 @@ found-more Q p (x ∷ rs) r own h =
     (elim (p x) as (λ b. IfSome (cond b (Some x) (find p rs)) Q → IfSome (cond b (Some x) (find p (rs ++ r ∷ []))) Q)
     [ true ↦ λ k. k | false ↦ found-more Q p rs r own ]) h
 
-and-false : (a b : Bool) → b ≡ false → (a && b) ≡ false
-and-false true b e = e
-and-false false b e = refl
-
--- another run
-other-run : (run at : ℕ) (name hash : List ℕ) → (run == at) ≡ false → is_step run name at hash ≡ false
-other-run run at name hash e = ap (λ b. b && bytes_eq name hash) e
-
--- another name
-other-name : (run at : ℕ) (name hash : List ℕ) → bytes_eq name hash ≡ false → is_step run name at hash ≡ false
-other-name run at name hash e = and-false (run == at) (bytes_eq name hash) e
-
-this-step : (run at : ℕ) (name hash : List ℕ) → run ≡ at → name ≡ hash → is_step run name at hash ≡ true
-this-step run at name hash a b =
-    subst (λ n. is_step run name n hash ≡ true) a
-    (subst (λ n. is_step run name run n ≡ true) b (own-step run name))
-
 none-known : (a b c : Bool) → (a || b || c) ≡ false → (a ≡ false) × ((b ≡ false) × (c ≡ false))
-none-known true b c e = absurd (cc)
-none-known false true c e = absurd (cc)
-none-known false false c e = (refl, (refl, e))
+none-known a b c e =
+    let k = either-none (a || b) c e in let m = either-none a b k.0 in (m.0, (m.1, k.1))
 
 -- a name that is new
 adds-unknown : (name : List ℕ) (t : RunSteps) → Adds (note_plan name t) → is_known name t ≡ false
@@ -179,8 +159,8 @@ pends-unknown name kind t h = by_test (is_known name t) refl h
     by_test true e k = absurd k
     by_test false e k = e
 
-module _ (step : List ℕ) (is : List Item) (runs : ℕ) (live : List Run) (items : List Item) (issues : List Issue)
-    (h : AreCalled step is runs live items issues) where
+module _ (is : List Item) (live : List Run) (items : List Item) (issues : List Issue)
+    (h : AreCalled is live items issues) where
   abbrev pub FoundAt : ℕ → Run → Type 0
   FoundAt run r = find (λ (q : Run). run == q.number) live ≡ Some r
 
@@ -197,20 +177,12 @@ module _ (step : List ℕ) (is : List Item) (runs : ℕ) (live : List Run) (item
 
   -- one run changes, and items and calls
   runs-changed : (number : ℕ) (f : Run → Run) (items_now is_now : List Item) (issues_now : List Issue)
-      → ((r : Run) → (f r).number ≡ r.number) → ((r : Run) → HasOrder step r → HasOrder step (f r))
-      → AllByRecursion (λ (i : Item). i.run ≤ runs) items_now
-      → AllByRecursion (λ (i : Issue). i.item.run ≤ runs) issues_now
-      → AllByRecursion (λ (i : Item). i.run ≤ runs) is_now
-      → ((run : ℕ) (name : List ℕ) (r : Run) → IsName step name → FoundAt run r → IsCalled run name items issues is r
+      → ((r : Run) → (f r).number ≡ r.number) → ((r : Run) → HasOrder r → HasOrder (f r))
+      → ((run : ℕ) (name : List ℕ) (r : Run) → IsOther name → FoundAt run r → IsCalled run name items issues is r
       → IsCalled run name items_now issues_now is_now (change number f r))
-      → AreCalled step is_now runs (changed number f live) items_now issues_now
-  runs-changed number f items_now is_now issues_now same order a b c keeps = record {
-    live_given = all-changed (λ (r : Run). r.number ≤ runs) number f live
-        (λ r k. subst (λ n. n ≤ runs) (sym (same r)) k) h.live_given;
-    items_given = a;
-    issues_given = b;
-    aside_given = c;
-    ordered = all-changed (HasOrder step) number f live order h.ordered;
+      → AreCalled is_now (changed number f live) items_now issues_now
+  runs-changed number f items_now is_now issues_now same order keeps = record {
+    ordered = all-changed HasOrder number f live order h.ordered;
     called = λ run name own.
         subst (λ o. IfSome o (IsCalled run name items_now issues_now is_now))
         (sym (found-changed run number f live same))
@@ -221,11 +193,10 @@ module _ (step : List ℕ) (is : List Item) (runs : ℕ) (live : List Run) (item
 
   -- its steps stay
   pub called-quiet : (number : ℕ) (f : Run → Run) → ((r : Run) → (f r).number ≡ r.number)
-      → ((r : Run) → (f r).steps ≡ r.steps) → AreCalled step is runs (changed number f live) items issues
+      → ((r : Run) → (f r).steps ≡ r.steps) → AreCalled is (changed number f live) items issues
   called-quiet number f same quiet =
       runs-changed number f items is issues same
-      (λ r k. subst (λ (t : RunSteps). AreInOrder t.planned × AllByRecursion (IsName step) t.planned) (sym (quiet r)) k)
-      h.items_given h.issues_given h.aside_given
+      (λ r k. subst (λ (t : RunSteps). AreInOrder t.planned × AllByRecursion IsOther t.planned) (sym (quiet r)) k)
       (λ run name r own e k. elim (number == r.number) as (λ b. IsCalled run name items issues is (cond b (f r) r)) [
         | true ↦ subst (λ (t : RunSteps). Stands (is_planned name t) (queued run name items)
             (opened run name issues + queued run name is) (is_recorded name t) (is_pending name t)) (sym (quiet r)) k
@@ -234,42 +205,26 @@ module _ (step : List ℕ) (is : List Item) (runs : ℕ) (live : List Run) (item
 
   -- items and calls change alone
   pub called-lists : (items_now is_now : List Item) (issues_now : List Issue)
-      → AllByRecursion (λ (i : Item). i.run ≤ runs) items_now
-      → AllByRecursion (λ (i : Issue). i.item.run ≤ runs) issues_now
-      → AllByRecursion (λ (i : Item). i.run ≤ runs) is_now
-      → ((run : ℕ) (name : List ℕ) (r : Run) → IsName step name → FoundAt run r → IsCalled run name items issues is r
+      → ((run : ℕ) (name : List ℕ) (r : Run) → IsOther name → FoundAt run r → IsCalled run name items issues is r
       → IsCalled run name items_now issues_now is_now r)
-      → AreCalled step is_now runs live items_now issues_now
-  called-lists items_now is_now issues_now a b c keeps = record {
-    live_given = h.live_given;
-    items_given = a;
-    issues_given = b;
-    aside_given = c;
+      → AreCalled is_now live items_now issues_now
+  called-lists items_now is_now issues_now keeps = record {
     ordered = h.ordered;
     called = λ run name own. of-found (IsCalled run name items issues is) (IsCalled run name items_now issues_now is_now)
         (find (λ (r : Run). run == r.number) live) (λ r e k. keeps run name r own e k) (h.called run name own);
   }
 
-  pub called-started : (r : Run) → r.number ≡ runs + 1 → r.steps.planned ≡ [] → r.steps.recorded ≡ []
-      → AreCalled step is (runs + 1) (live ++ r ∷ []) items issues
-  called-started r next none fresh = record {
-    live_given = all-last (λ (q : Run). q.number ≤ runs + 1) live r
-        (all-weaker (λ (q : Run). q.number ≤ runs) (λ (q : Run). q.number ≤ runs + 1) live
-        (λ q (low : q.number ≤ runs). omega (arith, low)) h.live_given) (omega (arith, next));
-    items_given = all-weaker (λ (i : Item). i.run ≤ runs) (λ (i : Item). i.run ≤ runs + 1) items
-        (λ i (low : i.run ≤ runs). omega (arith, low)) h.items_given;
-    issues_given = all-weaker (λ (i : Issue). i.item.run ≤ runs) (λ (i : Issue). i.item.run ≤ runs + 1) issues
-        (λ i (low : i.item.run ≤ runs). omega (arith, low)) h.issues_given;
-    aside_given = all-weaker (λ (i : Item). i.run ≤ runs) (λ (i : Item). i.run ≤ runs + 1) is
-        (λ i (low : i.run ≤ runs). omega (arith, low)) h.aside_given;
-    ordered = all-last (HasOrder step) live r h.ordered
-        (subst (λ ks. AreInOrder ks × AllByRecursion (IsName step) ks) (sym none) (tt, tt));
+  pub called-started : (runs : ℕ) (r : Run) → AreGiven is runs live items issues → r.number ≡ runs + 1
+      → r.steps ≡ no_steps → AreCalled is (live ++ r ∷ []) items issues
+  called-started runs r given next none = record {
+    ordered = all-last HasOrder live r h.ordered
+        (subst (λ (t : RunSteps). AreInOrder t.planned × AllByRecursion IsOther t.planned) (sym none) (tt, tt));
     called = λ run name own. found-more (IsCalled run name items issues is) (λ (q : Run). run == q.number) live r
         (λ e.
         let number : run ≡ runs + 1 = eqb-true run r.number e ∙ next in
-        let a = counted-over item_run item_target runs run name items number h.items_given in
-        let b = counted-over issue_run issue_target runs run name issues number h.issues_given in
-        let c = counted-over item_run item_target runs run name is number h.aside_given in
+        let a = counted-over item_run item_target runs run name items number given.queued in
+        let b = counted-over issue_run issue_target runs run name issues number given.called in
+        let c = counted-over item_run item_target runs run name is number given.aside in
         let gone : is_planned name r.steps ≡ false = rw none refl in
         record {
           once = λ planned. absurd (cc);
@@ -282,13 +237,9 @@ module _ (step : List ℕ) (is : List Item) (runs : ℕ) (live : List Run) (item
   }
 
   pub called-ended : (number : ℕ)
-      → AreCalled step is runs (filter (λ (r : Run). not (number == r.number)) live) (without_run number items) issues
+      → AreCalled is (filter (λ (r : Run). not (number == r.number)) live) (without_run number items) issues
   called-ended number = record {
-    live_given = all-filter (λ (r : Run). r.number ≤ runs) (λ (r : Run). not (number == r.number)) live h.live_given;
-    items_given = all-filter (λ (i : Item). i.run ≤ runs) (λ i. not (has_run number i)) items h.items_given;
-    issues_given = h.issues_given;
-    aside_given = h.aside_given;
-    ordered = all-filter (HasOrder step) (λ (r : Run). not (number == r.number)) live h.ordered;
+    ordered = all-filter HasOrder (λ (r : Run). not (number == r.number)) live h.ordered;
     called = λ run name own. by_test run name (number == run) refl (h.called run name own);
   }
     where
@@ -309,7 +260,7 @@ module _ (step : List ℕ) (is : List Item) (runs : ℕ) (live : List Run) (item
           (λ (r : Run). not (number == r.number)) true live (alike run false e)
           (of-found (IsCalled run name items issues is) (IsCalled run name (without_run number items) issues is)
           (find (λ (r : Run). run == r.number) live)
-          (λ r there stands. stands-same _ _ _ _ _ _ _ _ _ _ refl refl
+          (λ r there stands. stands-same refl refl
           (counted-left item_run item_target number run name items ∙ ap (λ b. cond b 0 (queued run name items)) e)
           refl (λ w. w) stands) k)
 
@@ -317,27 +268,20 @@ module _ (step : List ℕ) (is : List Item) (runs : ℕ) (live : List Run) (item
 
   -- a name that is new is planned, and its item is queued
   pub called-planned : (r : Run) (name : List ℕ) (i : Item) → FoundAt r.number r → Adds (note_plan name r.steps)
-      → IsName step name → i.run ≡ r.number → i.target ≡ name
-      → AreCalled step is runs (changed r.number (with_plan name) live) (insert_item i items) issues
-  called-planned r name i live_now new its run_same target_same =
+      → IsOther name → IsFor r.number name i
+      → AreCalled is (changed r.number (with_plan name) live) (insert_item i items) issues
+  called-planned r name i live_now new its own_item =
       runs-changed r.number (with_plan name) (insert_item i items) is issues (λ q. refl)
       (λ q k. (
         order-inserted name q.steps.planned k.0,
-        keys-inserted (IsName step) name q.steps.planned its k.1,
+        keys-inserted IsOther name q.steps.planned its k.1,
       ))
-      (all-queued (λ (j : Item). j.run ≤ runs) i items
-      (subst (λ n. n ≤ runs) (sym run_same) low) h.items_given) h.issues_given h.aside_given
       (λ run q_name q own e k. by_run run q_name q (r.number == q.number) refl e k)
     where
-      low : r.number ≤ runs
-      low = in-all (λ (q : Run). q.number ≤ runs) r live
-          (in-found (λ (q : Run). r.number == q.number) live r live_now) h.live_given
-
       counts : (run : ℕ) (q_name : List ℕ) → queued run q_name (insert_item i items)
           ≡ queued run q_name items + one_if (is_step run q_name r.number name)
       counts run q_name = queued-more run q_name i items
-          ∙ ap (λ n. queued run q_name items + one_if (is_step run q_name n i.target)) run_same
-          ∙ ap (λ n. queued run q_name items + one_if (is_step run q_name r.number n)) target_same
+          ∙ ap (λ n. queued run q_name items + n) (step-same run r.number q_name name i own_item)
 
       no-more : (run : ℕ) (q_name : List ℕ) → is_step run q_name r.number name ≡ false
           → queued run q_name (insert_item i items) ≡ queued run q_name items
@@ -365,7 +309,7 @@ module _ (step : List ℕ) (is : List Item) (runs : ℕ) (live : List Run) (item
           (is_pending q_name r.steps) (queued run q_name items) (opened run q_name issues + queued run q_name is)
           (queued run q_name (insert_item i items)) none.1.0 none.0 none.1.1 (omega (arith, n, one)) k)
       by_name run q_name false e same k =
-          stands-same _ _ _ _ _ _ _ _ _ _
+          stands-same
           (key-inserted q_name name r.steps.planned ∙ ap (λ b. b || is_planned q_name r.steps) e) refl
           (no-more run q_name (other-name run r.number q_name name e)) refl (λ w. w) k
 
@@ -379,56 +323,54 @@ module _ (step : List ℕ) (is : List Item) (runs : ℕ) (live : List Run) (item
           (own-at run q there ∙ sym (eqb-true r.number q.number e))
           (subst (λ (x : Run). IsCalled run q_name items issues is x) (sym same) k))
       by_run run q_name q false e there k =
-          stands-same _ _ _ _ _ _ _ _ _ _ refl refl
+          stands-same refl refl
           (no-more run q_name (other-run run r.number q_name name
           (flip-eq run r.number ∙ ap (λ n. r.number == n) (own-at run q there) ∙ e))) refl (λ w. w) k
 
   -- a name that is new waits
   pub called-pended : (r : Run) (name : List ℕ) (kind : Pending) → FoundAt r.number r
       → Adds (note_pending name kind r.steps)
-      → AreCalled step is runs (changed r.number (λ (q : Run). with_steps (pend_step name kind q.steps) q) live) items
+      → AreCalled is (changed r.number (pended kind name) live) items
       issues
   called-pended r name kind live_now new =
-      runs-changed r.number (λ (q : Run). with_steps (pend_step name kind q.steps) q) items is issues (λ q. refl)
-      (λ q k. k) h.items_given h.issues_given h.aside_given
+      runs-changed r.number (pended kind name) items is issues (λ q. refl)
+      (λ q k. k)
       (λ run q_name q own e k. by_run run q_name q (r.number == q.number) refl e k)
     where
       by_name : (run : ℕ) (q_name : List ℕ) (b : Bool) → bytes_eq q_name name ≡ b
           → IsCalled run q_name items issues is r
-          → IsCalled run q_name items issues is (with_steps (pend_step name kind r.steps) r)
+          → IsCalled run q_name items issues is (pended kind name r)
       by_name run q_name true e k =
           let unknown : is_known q_name r.steps ≡ false =
           subst (λ n. is_known n r.steps ≡ false) (sym (bytes_same q_name name e))
           (pends-unknown name kind r.steps new) in
           let none = none-known (is_recorded q_name r.steps) (is_planned q_name r.steps) (is_pending q_name r.steps)
           unknown in
-          stands-pended _ _ _ _ _ _ none.1.0 k
+          stands-pended none.1.0 k
       by_name run q_name false e k =
-          stands-same _ _ _ _ _ _ _ _ _ _ refl refl refl refl
+          stands-same refl refl refl refl
           (λ w. ap is_some (found-inserted q_name name kind r.steps.pending
           ∙ ap (λ b. cond b (Some kind) (under q_name r.steps.pending)) e) ∙ w) k
 
       by_run : (run : ℕ) (q_name : List ℕ) (q : Run) (b : Bool) → (r.number == q.number) ≡ b → FoundAt run q
           → IsCalled run q_name items issues is q
-          → IsCalled run q_name items issues is (cond b (with_steps (pend_step name kind q.steps) q) q)
+          → IsCalled run q_name items issues is (cond b (pended kind name q) q)
       by_run run q_name q true e there k =
           let same : r ≡ q = same-at r.number run r q live_now there e in
-          subst (λ (x : Run). IsCalled run q_name items issues is (with_steps (pend_step name kind x.steps) x)) same
+          subst (λ (x : Run). IsCalled run q_name items issues is (pended kind name x)) same
           (by_name run q_name (bytes_eq q_name name) refl
           (subst (λ (x : Run). IsCalled run q_name items issues is x) (sym same) k))
       by_run run q_name q false e there k = k
 
   -- a name is recorded, whichever, and isn't called any more
   pub called-recorded : (at : ℕ) (name result : List ℕ)
-      → AreCalled step is runs (changed at (record_in name result) live) (without_item at name items) issues
+      → AreCalled is (changed at (record_in name result) live) (without_item at name items) issues
   called-recorded at name result =
       runs-changed at (record_in name result) (without_item at name items) is issues (λ q. refl)
       (λ q k. (
         order-removed (is_at (slice_cmp nat_cmp name)) q.steps.planned k.0,
-        keys-removed (IsName step) (is_at (slice_cmp nat_cmp name)) q.steps.planned k.1,
+        keys-removed IsOther (is_at (slice_cmp nat_cmp name)) q.steps.planned k.1,
       ))
-      (all-filter (λ (i : Item). i.run ≤ runs) (λ i. not (is_item_of at name i)) items h.items_given)
-      h.issues_given h.aside_given
       (λ run q_name q own e k. by_run run q_name q (at == q.number) refl e k)
     where
       counts : (run : ℕ) (q_name : List ℕ) (b : Bool) → is_step run q_name at name ≡ b
@@ -441,13 +383,13 @@ module _ (step : List ℕ) (is : List Item) (runs : ℕ) (live : List Run) (item
           → IsCalled run q_name (without_item at name items) issues is (record_in name result q)
       by_name run q_name q true e same sorted k =
           let name_same : q_name ≡ name = bytes_same q_name name e in
-          stands-recorded _ _ _ _ _
+          stands-recorded
           (subst (λ n. is_planned n (record_step name (result_for result q) q.steps) ≡ false) (sym name_same)
           (key-gone name q.steps.planned sorted))
-          (found-last (has_name q_name) q.steps.recorded (record { hash = name; result = result_for result q }) e)
+          (found-some (has_name q_name) q.steps.recorded (record { hash = name; result = result_for result q }) e)
           (counts run q_name true (this-step run at q_name name same name_same))
       by_name run q_name q false e same sorted k =
-          stands-same _ _ _ _ _ _ _ _ _ _ (key-left q_name name q.steps.planned e)
+          stands-same (key-left q_name name q.steps.planned e)
           (ap is_some (find-last (has_name q_name) q.steps.recorded
           (record { hash = name; result = result_for result q })
           (λ own. let no : bytes_eq q_name name ≡ true = own in cc)))
@@ -459,22 +401,21 @@ module _ (step : List ℕ) (is : List Item) (runs : ℕ) (live : List Run) (item
           → IsCalled run q_name (without_item at name items) issues is (cond b (record_in name result q) q)
       by_run run q_name q true e there k =
           by_name run q_name q (bytes_eq q_name name) refl (own-at run q there ∙ sym (eqb-true at q.number e))
-          (in-all (HasOrder step) q live (in-found (λ (x : Run). run == x.number) live q there) h.ordered).0 k
+          (in-all HasOrder q live (in-found (λ (x : Run). run == x.number) live q there) h.ordered).0 k
       by_run run q_name q false e there k =
-          stands-same _ _ _ _ _ _ _ _ _ _ refl refl
+          stands-same refl refl
           (counts run q_name false (other-run run at q_name name
           (flip-eq run at ∙ ap (λ n. at == n) (own-at run q there) ∙ e))) refl (λ w. w) k
 
   -- ## Items
 
   -- an item that finds out what comes next
-  pub called-beside : (i : Item) → i.run ≤ runs → i.target ≡ step
-      → AreCalled step is runs live (insert_item i items) issues
-  called-beside i low target =
-      called-lists (insert_item i items) is issues (all-queued (λ (j : Item). j.run ≤ runs) i items low h.items_given)
-      h.issues_given h.aside_given
+  pub called-beside : (i : Item) → i.target ≡ step_target
+      → AreCalled is live (insert_item i items) issues
+  called-beside i target =
+      called-lists (insert_item i items) is issues
       (λ run name q own e k.
       let n = queued-more run name i items in
       let none : one_if (is_step run name i.run i.target) ≡ 0 =
       ap one_if (other-name run i.run name i.target (ap (bytes_eq name) target ∙ own)) in
-      stands-same _ _ _ _ _ _ _ _ _ _ refl refl (omega (arith, n, none)) refl (λ w. w) k)
+      stands-same refl refl (omega (arith, n, none)) refl (λ w. w) k)

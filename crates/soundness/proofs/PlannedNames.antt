@@ -1,5 +1,5 @@
 -- The planned names of a run stand in order, so that one that comes or goes changes what is said of it alone.
-use Rattle.std.proofs.Common.{◌≡◌, ℕ, Bool, true, false, ◌||◌, cond, List, [], ◌∷◌, ◌++◌, find, Some, is_some, refl, sym, ap, ◌∙◌, subst, bytes_eq}
+use Rattle.std.proofs.Common.{◌≡◌, ℕ, Bool, true, false, ◌||◌, cond, List, [], ◌∷◌, Some, is_some, refl, sym, ap, ◌∙◌, subst, bytes_eq}
 use Rattle.std.specs.BTreeMap.{is_at}
 use Rattle.std.specs.BTreeSet.{insert_key}
 use Rattle.std.specs.Cmp.Lexicographic.{slice_cmp, nat_list_cmp_total}
@@ -131,7 +131,7 @@ key-left q name (k ∷ ks) other = by_test (is_at (slice_cmp nat_cmp name) k) re
         sym (ap (λ b. b || is_key q ks) (at-bytes q k ∙ ap (bytes_eq q) (sym same) ∙ other))
     by_test false e more = ap (λ b. is_at (slice_cmp nat_cmp q) k || b) more
 
--- ## Names that wait, and names that are recorded
+-- ## Names that wait
 
 pub none-removed : (p test : List ℕ → Bool) (ps : Names) → is_some (lookup p ps) ≡ false
     → is_some (lookup p (remove_entry test ps)) ≡ false
@@ -144,10 +144,3 @@ none-removed p test (x ∷ ps) h = by_tests (p x.0) (test x.0) refl h (none-remo
     by_tests true c e k more = absurd (cc)
     by_tests false true e k more = k
     by_tests false false e k more = rw e (more k)
-
-pub found-last : {X : Type 0} (p : X → Bool) (xs : List X) (x : X) → p x ≡ true
-    → is_some (find p (xs ++ x ∷ [])) ≡ true
-found-last p [] x own = rw own refl
-found-last p (y ∷ ys) x own =
-    elim (p y) as (λ b. is_some (cond b (Some y) (find p (ys ++ x ∷ []))) ≡ true)
-    [ true ↦ refl | false ↦ found-last p ys x own ]

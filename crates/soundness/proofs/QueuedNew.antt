@@ -1,10 +1,9 @@
 -- No queued item is for a step that its run recorded: no name that is recorded or waits is the target that finds out
 -- what comes next, at each change and so in each state that is reached.
-use Rattle.std.proofs.Common.{◌≡◌, ℕ, ◌==◌, Bool, true, false, not, cond, List, [], ◌∷◌, ◌++◌, Some, IfSome, is_some, refl, sym, ap, ◌∙◌, subst, bytes_eq}
+use Rattle.std.proofs.Common.{◌≡◌, ℕ, ◌==◌, Bool, true, false, not, cond, List, [], Some, IfSome, is_some, refl, sym, ap, ◌∙◌, subst, bytes_eq}
 use Rattle.std.specs.BTreeMap.{is_at}
 use Rattle.std.specs.Cmp.Lexicographic.{slice_cmp}
 use Rattle.std.specs.List.{AllByRecursion}
-use Rattle.std.specs.Map.{lookup, remove_entry}
 use Rattle.std.specs.Ordering.{nat_cmp}
 use Rattle.kinds.specs.RunSteps.{RunSteps, has_name, is_pending, is_recorded, pend_step, record_step}
 use Rattle.kinds.specs.declared.input.Input.{Input}
@@ -23,12 +22,15 @@ use Rattle.run_model.specs.Sound.{IsUnrecorded}
 use Rattle.run_model.specs.State.{State, Run, live_run}
 use Rattle.run_model.proofs.FitEvents.{find-last}
 use Rattle.run_model.proofs.FitRuns.{all-changed}
+use Rattle.run_model.proofs.Kept.{run_from}
 use Rattle.run_model.proofs.Members.{all-found, in-all, in-found}
 use Rattle.run_model.proofs.Unrecorded.{new-fold}
-use Rattle.run_model.proofs.WaitingNames.{Names, found-inserted, under}
+use Rattle.run_model.proofs.WaitingNames.{found-inserted, under}
+use Rattle.soundness.proofs.Carried.{Any, Core, Carries, core, pended}
+use Rattle.soundness.proofs.CarriedReplies.{CarriesSteps}
+use Rattle.soundness.proofs.CarriedSteps.{carried-fold}
+use Rattle.soundness.proofs.PlannedNames.{none-removed}
 use Rattle.soundness.proofs.StepNames.{name-apart}
-use Rattle.soundness.proofs.TurnedSteps.{turned-fold}
-use Rattle.soundness.proofs.Work.{Any, IsMade, IsName, Turns, Work, pended, run_in, work}
 
 -- what finds out what comes next is neither recorded nor waits
 record LacksTarget (t : RunSteps) : Type 0 where
@@ -38,30 +40,17 @@ record LacksTarget (t : RunSteps) : Type 0 where
 abbrev RunLacks : Run → Type 0
 RunLacks r = LacksTarget r.steps
 
-abbrev AllLack : Work → Type 0
-AllLack w = AllByRecursion RunLacks w.live
+abbrev AllLack : List Item → Core → Type 0
+AllLack is c = AllByRecursion RunLacks c.live
 
 -- ## Steps that change
-
--- nothing more is found where a name goes
-found-fewer : (test gone : List ℕ → Bool) (ps : Names) → is_some (lookup test ps) ≡ false
-    → is_some (lookup test (remove_entry gone ps)) ≡ false
-found-fewer test gone [] h = h
-found-fewer test gone (p ∷ ps) h = by_tests (test p.0) (gone p.0) refl h (found-fewer test gone ps)
-  where
-    by_tests : (b c : Bool) → test p.0 ≡ b → is_some (cond b (Some p.1) (lookup test ps)) ≡ false
-        → (is_some (lookup test ps) ≡ false → is_some (lookup test (remove_entry gone ps)) ≡ false)
-        → is_some (lookup test (cond c ps (p ∷ remove_entry gone ps))) ≡ false
-    by_tests true c e k more = absurd (cc)
-    by_tests false true e k more = k
-    by_tests false false e k more = rw e (more k)
 
 lacks-recorded : (name result : List ℕ) (t : RunSteps) → bytes_eq step_target name ≡ false → LacksTarget t
     → LacksTarget (record_step name result t)
 lacks-recorded name result t apart h = record {
   unrecorded = ap is_some (find-last (has_name step_target) t.recorded (record { hash = name; result = result })
       (λ same. let no : bytes_eq step_target name ≡ true = same in cc)) ∙ h.unrecorded;
-  unwaited = found-fewer (is_at (slice_cmp nat_cmp step_target)) (is_at (slice_cmp nat_cmp name)) t.pending
+  unwaited = none-removed (is_at (slice_cmp nat_cmp step_target)) (is_at (slice_cmp nat_cmp name)) t.pending
       h.unwaited;
 }
 
@@ -88,59 +77,55 @@ waits-apart name t h waits = by_test (bytes_eq step_target name) refl
 
 -- ## The changes
 
-lack-recorded : (run : ℕ) (name result : List ℕ) (w : Work) → bytes_eq step_target name ≡ false → AllLack w
-    → AllLack (record w { live = changed run (record_in name result) w.live })
-lack-recorded run name result w apart h =
-    all-changed RunLacks run (record_in name result) w.live
+lack-recorded : (run : ℕ) (name result : List ℕ) (live : List Run) → bytes_eq step_target name ≡ false
+    → AllByRecursion RunLacks live → AllByRecursion RunLacks (changed run (record_in name result) live)
+lack-recorded run name result live apart h =
+    all-changed RunLacks run (record_in name result) live
     (λ q k. lacks-recorded name (result_for result q) q.steps apart k) h
 
-lack-woken : (run : ℕ) (name result : List ℕ) (r : Run) (w : Work) → run_in run w.live ≡ Some r
-    → is_pending name r.steps ≡ true → AllLack w
-    → AllLack (record w { live = changed run (record_in name result) w.live })
-lack-woken run name result r w live waits h =
-    lack-recorded run name result w (waits-apart name r.steps
-    (in-all RunLacks r w.live (in-found (λ (q : Run). run == q.number) w.live r live) h) waits) h
+lack-woken : (run : ℕ) (name result : List ℕ) (r : Run) (s : State) → live_run run s ≡ Some r
+    → is_pending name r.steps ≡ true → AllByRecursion RunLacks s.live
+    → AllByRecursion RunLacks (changed run (record_in name result) s.live)
+lack-woken run name result r s live waits h =
+    lack-recorded run name result s.live (waits-apart name r.steps
+    (in-all RunLacks r s.live (in-found (λ (q : Run). run == q.number) s.live r live) h) waits) h
 
-lack-pended : (number : ℕ) (kind : Pending) (name : List ℕ) (w : Work) → IsName name → AllLack w
-    → AllLack (record w { live = changed number (pended kind name) w.live })
-lack-pended number kind name w named h =
-    all-changed RunLacks number (pended kind name) w.live
-    (λ q k. lacks-pended name kind q.steps (name-apart name named) k) h
-
--- the steps stay
-lack-quiet : (number : ℕ) (f : Run → Run) (w : Work) → ((q : Run) → RunLacks q → RunLacks (f q)) → AllLack w
-    → AllLack (record w { live = changed number f w.live })
-lack-quiet number f w same h = all-changed RunLacks number f w.live same h
-
-lack-made : (r : Run) (w : Work) → IsMade w.runs r → AllLack w → AllByRecursion RunLacks (w.live ++ r ∷ [])
-lack-made r w made h =
-    all-last RunLacks w.live r h
-    (subst (λ t. LacksTarget t) (sym made.1) (record { unrecorded = refl; unwaited = refl }))
-
-turns-lack : Turns Any AllLack
-turns-lack = record {
-  makes = λ r i w made own any h. lack-made r w made h;
-  finds_out = λ r i w there none own any h. h;
-  wants = λ number w any h. lack-quiet number want w (λ q k. k) h;
-  plans = λ i r name j w out live named own any h.
-      lack-quiet r.number (with_plan name) w
+lack-changes : Carries Any AllLack
+lack-changes = record {
+  accepts = λ is event s next any h. h;
+  makes = λ is f events parent i s there texts own any h.
+      all-last RunLacks s.live (run_from f events parent s) h (record { unrecorded = refl; unwaited = refl });
+  joins = λ is f r value event s there text any h. h;
+  windows_go = λ is number s any h. h;
+  finds_out = λ r s there none any h. h;
+  wants = λ is number s any h. all-changed RunLacks number want s.live (λ q k. k) h;
+  plans = λ i r name s live new own any h. all-changed RunLacks r.number (with_plan name) s.live
       (λ q k. record { unrecorded = k.unrecorded; unwaited = k.unwaited }) h;
-  pends = λ i r name kind w out live named any h. lack-pended r.number kind name w named h;
-  results = λ i r name result w out live named any h.
-      lack-recorded r.number name result w (name-apart name named) h;
-  wakes = λ run name result r w live waits any h. lack-woken run name result r w live waits h;
-  ends = λ number w any h. all-filter RunLacks (λ (q : Run). not (number == q.number)) w.live h;
-  closes = λ i w there any h. h;
-  reopens = λ w any h. h;
-  drops = λ i is w any h. h;
-  requeues = λ i j is w own any h. h;
-  calls = λ i j w there own any h. lack-quiet i.run (called i.target) w (λ q k. k) h;
+  pends = λ i kind r name s live new own any h. all-changed RunLacks r.number (pended kind name) s.live
+      (λ q k. lacks-pended name kind q.steps (name-apart name own) k) h;
+  results = λ i r name result s live own any h.
+      lack-recorded r.number name result s.live (name-apart name own) h;
+  wakes = λ is run r name result s live waits any h. lack-woken run name result r s live waits h;
+  ends = λ is r status s live any h. all-filter RunLacks (λ (q : Run). not (r.number == q.number)) s.live h;
+}
+
+lack-steps : CarriesSteps Any AllLack
+lack-steps = record {
+  changes = lack-changes;
+  closes = λ i s rise there any h. h;
+  reopens = λ s any h. h;
+  drops = λ i is s done any h. h;
+  leaves = λ i no_retry ops s has own over any_before before any h. h;
+  queues = λ i j is r s its start live new any h. h;
+  issues = λ i s apart there any h. all-changed RunLacks i.run (called i.target) s.live (λ q k. k) h;
+  registers = λ app s any h. h;
+  tidies = λ s any h. h;
 }
 
 -- ## What follows
 
-lacks-fold : (limits : Limits) (inputs : List Input) → AllLack (work [] (fold limits inputs))
-lacks-fold limits inputs = turned-fold AllLack turns-lack limits inputs tt
+lacks-fold : (limits : Limits) (inputs : List Input) → AllLack [] (core (fold limits inputs))
+lacks-fold limits inputs = carried-fold AllLack lack-steps limits inputs tt
 
 is-unrecorded : (s : State) (i : Item) → AllByRecursion RunLacks s.live → IsItemNew s.live i → IsUnrecorded s i
 is-unrecorded s i lack new = by_test (bytes_eq i.target step_target) refl

@@ -15,7 +15,7 @@ use Rattle.run_model.specs.Advance.{advance, most}
 use Rattle.run_model.specs.Machine.{count_input, fold, state_after, step}
 use Rattle.run_model.specs.Settle.{Settled, issue, issue_found, issue_of, item_at, next_issued, settle, settle_by, started_at}
 use Rattle.run_model.specs.State.{State, Run, empty, issue_entries, live_run, moment_at, tidied}
-use Rattle.run_model.proofs.Apart.{Beside, apart-issue, apart-steps, apart-tidied}
+use Rattle.run_model.proofs.GoingOn.{Going, going-empty, going-steps}
 use Rattle.run_model.proofs.Limits.{issued-passes, may_be_issued}
 use Rattle.run_model.proofs.LiveRuns.{IsOf}
 use Rattle.run_model.proofs.Members.{in-all, in-found}
@@ -24,9 +24,9 @@ use Rattle.run_model.proofs.SettlingLists.{any-found}
 use Rattle.run_model.proofs.KeptSteps.{all_fired, goes-on, kept-act, kept-advance}
 use Rattle.soundness.specs.Starts.{AreLet, KeepsPace, Made, TellsOf, acted_on, is_start, start_of, made, made_after, made_by, made_in, made_of, starts, starts_of}
 use Rattle.soundness.proofs.Standing.{Stands, lets-next, same-cell, stands-later, stands-none, stands-other, stands-start}
-use Rattle.soundness.proofs.Asking.{Asks, asks-found, asks-none, turns-all}
-use Rattle.soundness.proofs.TurnedSteps.{turned-act, turned-advance, turned-issue, turned-tidied}
-use Rattle.soundness.proofs.Work.{work}
+use Rattle.soundness.proofs.Asking.{Asks, all-steps, asks-found, asks-none}
+use Rattle.soundness.proofs.Carried.{core}
+use Rattle.soundness.proofs.CarriedSteps.{carried-act, carried-advance, carried-tidied}
 use Rattle.soundness.proofs.Untouched.{Clock, clock, clock-acted, clock-fired}
 
 -- ## Starts, one after the other
@@ -103,13 +103,16 @@ by-after t u moments on h =
 
 -- numbers of items differ, and each item is of a run that has not ended and asks for the start of this run
 abbrev Whole : State → Type 0
-Whole s = Beside [] s × (AllOf s × Asks (work [] s))
+Whole s = Going [] s × (AllOf s × Asks [] (core s))
 
 whole-issue : (number : ℕ) (i : Item) (s : State) → next_issued s ≡ Some number → item_at number s ≡ Some i
     → Whole s → Whole (issue i s)
 whole-issue number i s next there h = (
-  apart-issue number i s there h.0,
-  ((of-steps 0).issues number i s next there h.1.0, turned-issue Asks turns-all number i s there h.1.1),
+  (going-steps 0).issues number i s next there h.0,
+  (
+    (of-steps 0).issues number i s next there h.1.0,
+    all-steps.issues i s h.0.0.1.queued (in-found (has_number number) s.items i there) tt h.1.1,
+  ),
 )
 
 whole-acted : (s : State) (input : Input) → Whole s → Whole (acted_on s input)
@@ -117,26 +120,29 @@ whole-acted s input h =
     let t : ℕ = moment_at (reading input) s in
     let counted : State = count_input s in
     let on : counted.moment ≤ t = goes-on s.moment (min (reading input) last_moment) in
-    let a : State = (advance t counted).state in (
-      kept-act t (λ i. Unit {0}) Beside (apart-steps t) input a tt
-          (kept-advance t (λ i. Unit {0}) Beside (apart-steps t) t counted (omega arith) on h.0),
+    let a : State = (advance t counted).state in
+    let going : Going [] a =
+    kept-advance t (λ i. Unit {0}) Going (going-steps t) t counted (omega arith) on h.0 in (
+      kept-act t (λ i. Unit {0}) Going (going-steps t) input a tt going,
       (
         kept-act t (λ i. Unit {0}) (λ is s. AllOf s) (of-steps t) input a tt
             (kept-advance t (λ i. Unit {0}) (λ is s. AllOf s) (of-steps t) t counted (omega arith) on h.1.0),
-        turned-act Asks turns-all input a (turned-advance Asks turns-all t counted h.1.1),
+        carried-act Asks all-steps input a going (carried-advance Asks all-steps t counted h.0 h.1.1),
       ),
     )
 
 whole-tidied : (s : State) → Whole s → Whole (tidied s)
-whole-tidied s h =
-    (apart-tidied s h.0, ((of-steps 0).tidies s h.1.0, turned-tidied Asks turns-all s h.1.1))
+whole-tidied s h = (
+  (going-steps 0).tidies s h.0,
+  ((of-steps 0).tidies s h.1.0, carried-tidied Asks all-steps s h.1.1),
+)
 
 whole-empty : (limits : Limits) → Whole (empty limits)
 whole-empty limits = (
-  record { given = tt; queued = tt; aside = tt; called = tt },
+  going-empty limits,
   (
     record { items_of = tt; sleeps_of = tt; waits_of = tt; invocations_of = tt; rules_of = tt },
-    asks-none,
+    asks-none limits,
   ),
 )
 
@@ -207,7 +213,7 @@ module _ (cell : Cell) where
       → LetAfter cell past (starts_of cell (made_of (Some i) s))
       × Goes (past ++ starts_of cell (made_of (Some i) s)) (issue i s)
   starts-issue past number i s next there h =
-      let passes : may_be_issued s i ≡ true = issued-passes number i s h.0.0.queued next there in
+      let passes : may_be_issued s i ≡ true = issued-passes number i s h.0.0.0.1.queued next there in
       let may : may_start i.start s.moment s.starts ≡ true =
       third (nat_le i.due s.moment) (are_free i.cells (issue_entries s)) (may_start i.start s.moment s.starts) passes
       in

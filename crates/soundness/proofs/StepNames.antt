@@ -1,10 +1,10 @@
--- The operations of a reply have names of steps, as the reply is read.
-use Rattle.std.proofs.Common.{◌≡◌, ℕ, ◌==◌, Bool, true, false, cond, List, [], ◌∷◌, Option, Some, None, IfSome, Result, Ok, Err, refl, sym, subst, bytes_eq, codes, length}
+-- The operations of a reply name steps, as the reply is read: never what finds out what comes next.
+use Rattle.std.proofs.Common.{◌≡◌, ℕ, ◌==◌, Bool, true, false, cond, List, [], ◌∷◌, Option, Some, None, IfSome, Result, Ok, Err, refl, sym, ◌∙◌, subst, bytes_eq, codes, length}
 use Rattle.std.specs.List.{AllByRecursion}
 use Rattle.std.specs.Option.{option_and_then, option_map}
 use Rattle.cel_parse.specs.Faults.{parse_text}
 use Rattle.cel_parse.specs.declared.fault.ParseFault.{ParseFault}
-use Rattle.json_text.specs.Grammar.{Json, null, boolean, number, text, array, object}
+use Rattle.json_text.specs.Grammar.{Json, text, array}
 use Rattle.json_text.specs.Nodes.{Document, item_nodes, value_at}
 use Rattle.json_text.specs.Starts.{start_at}
 use Rattle.json_text.specs.Text.{unescaped}
@@ -17,18 +17,21 @@ use Rattle.kinds.specs.declared.reply.Outcome.{Outcome}
 use Rattle.kinds.specs.declared.reply.Outcome.TheVariants as outcome
 use Rattle.kinds.specs.declared.reply.ReplyIn.{ReplyIn}
 use Rattle.kinds.specs.declared.reply.Time.{Time}
-use Rattle.lists.proofs.Texts.{bytes_same}
+use Rattle.lists.proofs.Texts.{bytes_flip, bytes_same}
 use Rattle.sdk_reply.specs.After.{after_field}
 use Rattle.sdk_reply.specs.Operations.{Parts, as_hash, condition_in, given, hash_in, invoke, invoke_function, invoke_within, name_in, op_by, op_named, op_of, op_with, option_of, option_or_name, optional_condition, optional_time, parsed, parts_of, sleep, slice_in, text_in, time_in, wait_for, wait_for_event, wait_until, wait_where, word_of}
 use Rattle.sdk_reply.specs.Ops.{before_ops, ops_at, with_ops}
 use Rattle.sdk_reply.specs.Outcome.{body_with, ended, ended_by, error_of, failed, fails_for_good, goes_on, goes_on_by, ops_from, ops_in, outcome_of, place_of, says_no_retry, unreadable}
 use Rattle.step_ids.specs.Step.{is_step_name}
 use Rattle.run_model.specs.Making.{step_target}
-use Rattle.soundness.proofs.Work.{IsName}
 
 -- ## Names
 
-abbrev pub op_name : Op → List ℕ
+abbrev pub IsName : List ℕ → Type 0
+IsName name = is_step_name name ≡ true
+
+-- the name of an operation's step
+abbrev op_name : Op → List ℕ
 op_name (op.StepRun name value) = name
 op_name (op.StepError name error) = name
 op_name (op.StepPlanned name) = name
@@ -39,12 +42,12 @@ op_name (op.InvokeFunction name id payload t) = name
 abbrev pub IsNamed : Op → Type 0
 IsNamed o = IsName (op_name o)
 
-abbrev pub AreNamed : Outcome → Type 0
-AreNamed (outcome.Ended output) = Unit {0}
-AreNamed (outcome.Ops ops no_retry a) = AllByRecursion IsNamed ops
-AreNamed (outcome.Retry a error) = Unit {0}
-AreNamed (outcome.NoRetry error) = Unit {0}
-AreNamed (outcome.Unreadable at) = Unit {0}
+abbrev pub AreNamed : List Op → Type 0
+AreNamed ops = AllByRecursion IsNamed ops
+
+abbrev pub NamesSteps : Outcome → Type 0
+NamesSteps (outcome.Ops ops no_retry a) = AreNamed ops
+NamesSteps _ = Unit {0}
 
 -- what finds out what comes next isn't the name of a step
 no-name : IsName step_target → ⊥
@@ -56,6 +59,9 @@ name-apart name named = by_test (bytes_eq step_target name) refl
     by_test : (b : Bool) → bytes_eq step_target name ≡ b → b ≡ false
     by_test true e = absurd (no-name (subst (λ n. IsName n) (sym (bytes_same step_target name e)) named))
     by_test false e = refl
+
+pub apart-name : (name : List ℕ) → IsName name → bytes_eq name step_target ≡ false
+apart-name name named = bytes_flip name step_target ∙ name-apart name named
 
 -- ## Choices and options
 
@@ -137,31 +143,17 @@ named-invoke hash opts h =
 -- whatever the word is
 named-word : (written hash : List ℕ) (p : Parts) → IsName hash → IsOp (op_by (word_of written) hash p)
 named-word written hash p h =
-    let from_5 = cond (bytes_eq written (codes "InvokeFunction")) (word_of (codes "InvokeFunction")) (word_of []) in
-    let from_4 = cond (bytes_eq written (codes "WaitForEvent")) (word_of (codes "WaitForEvent")) from_5 in
-    let from_3 = cond (bytes_eq written (codes "Sleep")) (word_of (codes "Sleep")) from_4 in
-    let from_2 = cond (bytes_eq written (codes "StepPlanned")) (word_of (codes "StepPlanned")) from_3 in
-    let from_1 = cond (bytes_eq written (codes "StepError")) (word_of (codes "StepError")) from_2 in
-    choice (λ word. IsOp (op_by word hash p)) (bytes_eq written (codes "StepRun"))
-    (word_of (codes "StepRun")) from_1 h
-    (choice (λ word. IsOp (op_by word hash p)) (bytes_eq written (codes "StepError"))
-    (word_of (codes "StepError")) from_2 h
-    (choice (λ word. IsOp (op_by word hash p)) (bytes_eq written (codes "StepPlanned"))
-    (word_of (codes "StepPlanned")) from_3 h
-    (choice (λ word. IsOp (op_by word hash p)) (bytes_eq written (codes "Sleep"))
-    (word_of (codes "Sleep")) from_4 (named-sleep hash p h)
-    (choice (λ word. IsOp (op_by word hash p)) (bytes_eq written (codes "WaitForEvent"))
-    (word_of (codes "WaitForEvent")) from_5 (named-wait hash p h)
-    (choice (λ word. IsOp (op_by word hash p)) (bytes_eq written (codes "InvokeFunction"))
-    (word_of (codes "InvokeFunction")) (word_of []) (named-invoke hash p.opts h) tt)))))
+    choice (λ w. IsOp (op_by w hash p)) (bytes_eq written (codes "StepRun")) _ _ h
+    (choice (λ w. IsOp (op_by w hash p)) (bytes_eq written (codes "StepError")) _ _ h
+    (choice (λ w. IsOp (op_by w hash p)) (bytes_eq written (codes "StepPlanned")) _ _ h
+    (choice (λ w. IsOp (op_by w hash p)) (bytes_eq written (codes "Sleep")) _ _ (named-sleep hash p h)
+    (choice (λ w. IsOp (op_by w hash p)) (bytes_eq written (codes "WaitForEvent")) _ _ (named-wait hash p h)
+    (choice (λ w. IsOp (op_by w hash p)) (bytes_eq written (codes "InvokeFunction")) _ _
+    (named-invoke hash p.opts h) tt)))))
 
 named-kind : (j : Json) (hash : List ℕ) (p : Parts) → IsName hash → IsOp (op_named hash p j)
-named-kind null hash p h = tt
-named-kind (boolean b) hash p h = tt
-named-kind (number w) hash p h = tt
 named-kind (text w) hash p h = named-word (unescaped w) hash p h
-named-kind (array w parts) hash p h = tt
-named-kind (object w parts) hash p h = tt
+named-kind _ hash p h = tt
 
 named-op : (j : Json) → IsOp (op_of j)
 unfolding op_of
@@ -172,58 +164,54 @@ named-op j =
 
 -- ## Replies
 
-named-unreadable : (reply : ReplyIn) (place : ℕ) → AreNamed (unreadable reply place)
+named-unreadable : (reply : ReplyIn) (place : ℕ) → NamesSteps (unreadable reply place)
 named-unreadable reply place =
-    choice AreNamed (says_no_retry reply) (outcome.NoRetry (error_object (codes "unreadable reply")))
+    choice NamesSteps (says_no_retry reply) (outcome.NoRetry (error_object (codes "unreadable reply")))
     (outcome.Unreadable place) tt tt
 
 -- one more before what was read
 named-before : (reply : ReplyIn) (o : Op) (d : Document) (nodes : List ℕ) → IsNamed o
-    → AreNamed (ops_from reply (ops_at d nodes)) → AreNamed (ops_from reply (before_ops o (ops_at d nodes)))
+    → NamesSteps (ops_from reply (ops_at d nodes)) → NamesSteps (ops_from reply (before_ops o (ops_at d nodes)))
 named-before reply o d nodes own h =
-    (elim (ops_at d nodes) as (λ read. AreNamed (ops_from reply read)
-    → AreNamed (ops_from reply (before_ops o read)))
+    (elim (ops_at d nodes) as (λ read. NamesSteps (ops_from reply read)
+    → NamesSteps (ops_from reply (before_ops o read)))
     [ Ok ops ↦ λ k. (own, k) | Err e ↦ λ k. k ]) h
 
 named-with : (reply : ReplyIn) (place : ℕ) (o : Option Op) (d : Document) (nodes : List ℕ) → IsOp o
-    → AreNamed (ops_from reply (ops_at d nodes)) → AreNamed (ops_from reply (with_ops place o (ops_at d nodes)))
+    → NamesSteps (ops_from reply (ops_at d nodes)) → NamesSteps (ops_from reply (with_ops place o (ops_at d nodes)))
 named-with reply place None d nodes own h = named-unreadable reply place
 named-with reply place (Some o) d nodes own h = named-before reply o d nodes own h
 
-named-read : (reply : ReplyIn) (d : Document) (nodes : List ℕ) → AreNamed (ops_from reply (ops_at d nodes))
+named-read : (reply : ReplyIn) (d : Document) (nodes : List ℕ) → NamesSteps (ops_from reply (ops_at d nodes))
 unfolding ops_at
 named-read reply d [] = tt
 named-read reply d (node ∷ nodes) =
     named-with reply (start_at d node) (op_of (value_at d node)) d nodes (named-op (value_at d node))
     (named-read reply d nodes)
 
-named-ops : (reply : ReplyIn) (d : Document) (j : Json) → AreNamed (ops_in reply d j)
-named-ops reply d null = named-unreadable reply 0
-named-ops reply d (boolean b) = named-unreadable reply 0
-named-ops reply d (number w) = named-unreadable reply 0
-named-ops reply d (text w) = named-unreadable reply 0
+named-ops : (reply : ReplyIn) (d : Document) (j : Json) → NamesSteps (ops_in reply d j)
 named-ops reply d (array w parts) = named-read reply d (item_nodes d 0)
-named-ops reply d (object w parts) = named-unreadable reply 0
+named-ops reply d _ = named-unreadable reply 0
 
-named-ended_by : (reply : ReplyIn) (read : Result Json JsonFault) → AreNamed (ended_by reply read)
+named-ended_by : (reply : ReplyIn) (read : Result Json JsonFault) → NamesSteps (ended_by reply read)
 named-ended_by reply (Ok j) = tt
 named-ended_by reply (Err e) = named-unreadable reply (place_of e)
 
-named-goes_on : (reply : ReplyIn) (read : Result Json JsonFault) → AreNamed (goes_on_by reply read)
+named-goes_on : (reply : ReplyIn) (read : Result Json JsonFault) → NamesSteps (goes_on_by reply read)
 named-goes_on reply (Ok j) = named-ops reply (body_with reply.body j) j
 named-goes_on reply (Err e) = named-unreadable reply (place_of e)
 
-named-failed : (reply : ReplyIn) → AreNamed (failed reply)
+named-failed : (reply : ReplyIn) → NamesSteps (failed reply)
 named-failed reply =
-    choice AreNamed (fails_for_good reply.no_retry reply.status) (outcome.NoRetry (error_of reply))
+    choice NamesSteps (fails_for_good reply.no_retry reply.status) (outcome.NoRetry (error_of reply))
     (outcome.Retry (after_field reply.retry) (error_of reply)) tt tt
 
-pub named-outcome : (reply : ReplyIn) → AreNamed (outcome_of reply)
+pub named-outcome : (reply : ReplyIn) → NamesSteps (outcome_of reply)
 unfolding outcome_of
 named-outcome reply =
-    choice AreNamed (reply.status == 200) (ended reply)
+    choice NamesSteps (reply.status == 200) (ended reply)
     (cond (reply.status == 206) (goes_on reply) (failed reply))
-    (choice AreNamed (length reply.body == 0) (outcome.Ended (codes "null"))
+    (choice NamesSteps (length reply.body == 0) (outcome.Ended (codes "null"))
     (ended_by reply (read_text reply.body)) tt (named-ended_by reply (read_text reply.body)))
-    (choice AreNamed (reply.status == 206) (goes_on reply) (failed reply)
+    (choice NamesSteps (reply.status == 206) (goes_on reply) (failed reply)
     (named-goes_on reply (read_text reply.body)) (named-failed reply))

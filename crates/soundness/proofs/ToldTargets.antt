@@ -13,16 +13,16 @@ use Rattle.lists.proofs.Texts.{bytes_same, bytes_self}
 use Rattle.run_model.specs.Ends.{end_run, fail_run}
 use Rattle.run_model.specs.Laws.{Follows}
 use Rattle.run_model.specs.Recording.{changed, data_result, error_result, record_in, record_result, result_for}
-use Rattle.run_model.specs.Replies.{Taking, add_sleep, add_wait, invoke, is_final, is_outcome_of, keep, noted, on_error, plan_named, take_found, take_named, take_operation, take_operations}
+use Rattle.run_model.specs.Replies.{Taking, is_final, is_outcome_of, keep, noted, on_error, take_found, take_named, take_operation, take_operations}
 use Rattle.run_model.specs.State.{State, Run, live_run}
-use Rattle.run_model.proofs.FitEvents.{found-left, none-left}
+use Rattle.run_model.proofs.Awaiting.{found-some}
+use Rattle.run_model.proofs.FitEvents.{found-left}
 use Rattle.run_model.proofs.KeptEvents.{ended-fail_run}
 use Rattle.run_model.proofs.KeptReplies.{kept-take_operation}
 use Rattle.run_model.proofs.KeptRuns.{Grows, Holds, Stays, keeps-runs}
-use Rattle.run_model.proofs.SettlingLists.{found-passes}
 use Rattle.run_model.proofs.Unrecorded.{change, found-changed}
+use Rattle.soundness.proofs.CarriedReplies.{ended-done, found-done}
 use Rattle.soundness.proofs.PlannedCalls.{found-more, of-mapped}
-use Rattle.soundness.proofs.PlannedNames.{found-last}
 
 -- where it is planned it is not recorded and doesn't wait, and else it is recorded
 abbrev pub IsPlannedOr : List ℕ → Run → Type 0
@@ -85,6 +85,25 @@ module _ (i : Item) (no_retry : Bool) where
   over-operation : (o : Op) (t : Taking) → Holds Over t.state → Holds Over (take_operation i no_retry o t).state
   over-operation o t h = kept-take_operation (Holds Over) (keeps-runs Over over-stays) i no_retry o t h
 
+  -- ## What an operation does
+
+  -- it is noted, or it is an error that isn't final
+  by-named : (Q : Taking → Type 0) (r : Run) (o : Op) (t : Taking)
+      → ((n : Noting) (effect : State → State) → Q (noted n r effect t))
+      → ((name error : List ℕ) → Q (on_error false r name error t)) → Q (take_named i no_retry r o t)
+  by-named Q r (op.StepRun name value) t notes fails = notes (keep_step name (data_result value) r.steps) _
+  by-named Q r (op.StepError name error) t notes fails = by_final (is_final i no_retry r t.state)
+    where
+      by_final : (b : Bool) → Q (on_error b r name error t)
+      by_final true = notes (keep_step name (error_result error) r.steps) _
+      by_final false = fails name error
+  by-named Q r (op.StepPlanned name) t notes fails = notes (note_plan name r.steps) _
+  by-named Q r (op.Sleep name due) t notes fails = notes (note_pending name pending.Sleep r.steps) _
+  by-named Q r (op.WaitForEvent name event due given) t notes fails =
+      notes (note_pending name pending.Wait r.steps) _
+  by-named Q r (op.InvokeFunction name id payload due) t notes fails =
+      notes (note_pending name pending.Invocation r.steps) _
+
   -- ## The call is made again
 
   again-noted : (n : Noting) (r : Run) (effect : State → State) (t : Taking) → t.again ≡ true
@@ -93,23 +112,9 @@ module _ (i : Item) (no_retry : Bool) where
   again-noted known r effect t h = h
   again-noted full r effect t h = h
 
-  again-error : (b : Bool) (r : Run) (name error : List ℕ) (t : Taking) → t.again ≡ true
-      → (on_error b r name error t).again ≡ true
-  again-error true r name error t h =
-      again-noted (keep_step name (error_result error) r.steps) r (record_result r.number name (error_result error)) t h
-  again-error false r name error t h = rw h refl
-
   again-named : (r : Run) (o : Op) (t : Taking) → t.again ≡ true → (take_named i no_retry r o t).again ≡ true
-  again-named r (op.StepRun name value) t h =
-      again-noted (keep_step name (data_result value) r.steps) r (record_result r.number name (data_result value)) t h
-  again-named r (op.StepError name error) t h = again-error (is_final i no_retry r t.state) r name error t h
-  again-named r (op.StepPlanned name) t h = again-noted (note_plan name r.steps) r (plan_named r name) t h
-  again-named r (op.Sleep name due) t h =
-      again-noted (note_pending name pending.Sleep r.steps) r (add_sleep r name due) t h
-  again-named r (op.WaitForEvent name event due given) t h =
-      again-noted (note_pending name pending.Wait r.steps) r (add_wait r name event due given) t h
-  again-named r (op.InvokeFunction name id payload due) t h =
-      again-noted (note_pending name pending.Invocation r.steps) r (invoke r name id payload due) t h
+  again-named r o t h =
+      by-named (λ u. u.again ≡ true) r o t (λ n effect. again-noted n r effect t h) (λ name error. rw h refl)
 
   again-found : (o : Op) (found : Option Run) (t : Taking) → t.again ≡ true
       → (take_found i no_retry o found t).again ≡ true
@@ -144,14 +149,7 @@ module _ (i : Item) (no_retry : Bool) where
 
   over-gone : (r : Run) (status : RunStatus) (s : State) → live_run i.run s ≡ Some r → i.run ≤ s.runs
       → Over s.runs (end_run r status s).live
-  over-gone r status s live low =
-      let own : i.run ≡ r.number =
-      eqb-true i.run r.number (found-passes (λ (q : Run). i.run == q.number) s.live r live) in (
-        low,
-        subst (λ o. IfSome o Recorded)
-            (sym (none-left (λ (q : Run). i.run == q.number) (λ (q : Run). not (r.number == q.number)) s.live
-            (λ q same. ap not (eq-eqb r.number q.number (sym own ∙ eqb-true i.run q.number same))))) tt,
-      )
+  over-gone r status s live low = (low, ended-done i r status s live)
 
   over-failed : (r : Run) (error : List ℕ) (s : State) → live_run i.run s ≡ Some r → i.run ≤ s.runs
       → Holds Over (fail_run r error s)
@@ -170,28 +168,10 @@ module _ (i : Item) (no_retry : Bool) where
   halts-noted full r effect t goes live low halted =
       over-failed r (error_object (codes "too many steps")) t.state live low
 
-  halts-error : (b : Bool) (r : Run) (name error : List ℕ) (t : Taking) → t.stopped ≡ false
-      → live_run i.run t.state ≡ Some r → i.run ≤ t.state.runs → Halts (on_error b r name error t)
-  halts-error true r name error t goes live low =
-      halts-noted (keep_step name (error_result error) r.steps) r (record_result r.number name (error_result error)) t
-      goes live low
-  halts-error false r name error t goes live low = λ halted. absurd (cc)
-
   halts-named : (r : Run) (o : Op) (t : Taking) → t.stopped ≡ false → live_run i.run t.state ≡ Some r
       → i.run ≤ t.state.runs → Halts (take_named i no_retry r o t)
-  halts-named r (op.StepRun name value) t goes live low =
-      halts-noted (keep_step name (data_result value) r.steps) r (record_result r.number name (data_result value)) t
-      goes live low
-  halts-named r (op.StepError name error) t goes live low =
-      halts-error (is_final i no_retry r t.state) r name error t goes live low
-  halts-named r (op.StepPlanned name) t goes live low =
-      halts-noted (note_plan name r.steps) r (plan_named r name) t goes live low
-  halts-named r (op.Sleep name due) t goes live low =
-      halts-noted (note_pending name pending.Sleep r.steps) r (add_sleep r name due) t goes live low
-  halts-named r (op.WaitForEvent name event due given) t goes live low =
-      halts-noted (note_pending name pending.Wait r.steps) r (add_wait r name event due given) t goes live low
-  halts-named r (op.InvokeFunction name id payload due) t goes live low =
-      halts-noted (note_pending name pending.Invocation r.steps) r (invoke r name id payload due) t goes live low
+  halts-named r o t goes live low =
+      by-named Halts r o t (λ n effect. halts-noted n r effect t goes live low) (λ name error halted. absurd (cc))
 
   halts-found : (o : Op) (found : Option Run) (t : Taking) → t.stopped ≡ false → live_run i.run t.state ≡ found
       → i.run ≤ t.state.runs → Halts (take_found i no_retry o found t)
@@ -211,7 +191,7 @@ module _ (i : Item) (no_retry : Bool) where
 
   over-now : (r : Run) (t : Taking) → live_run i.run t.state ≡ Some r → i.run ≤ t.state.runs → Recorded r
       → Over t.state.runs t.state.live
-  over-now r t live low done = (low, subst (λ o. IfSome o Recorded) (sym live) done)
+  over-now r t live low done = (low, found-done i (Some r) t.state live done)
 
   over-recorded : (r : Run) (result : List ℕ) (s : State) → live_run i.run s ≡ Some r → i.run ≤ s.runs
       → Holds Over (record_result r.number i.target result s)
@@ -221,7 +201,7 @@ module _ (i : Item) (no_retry : Bool) where
         (sym (found-changed i.run r.number (record_in i.target result) s.live (λ q. refl)
         ∙ ap (option_map (change r.number (record_in i.target result))) live))
         (subst (λ b. Recorded (cond b (record_in i.target result r) r)) (sym (eq-eqb r.number r.number refl))
-        (found-last (has_name i.target) r.steps.recorded
+        (found-some (has_name i.target) r.steps.recorded
         (record { hash = i.target; result = result_for result r }) (bytes_self i.target))),
   )
 
@@ -280,7 +260,7 @@ module _ (i : Item) (no_retry : Bool) where
   settles-found : (o : Op) (found : Option Run) (t : Taking) → is_outcome_of i.target o ≡ true
       → live_run i.run t.state ≡ found → i.run ≤ t.state.runs → IfSome found (IsPlannedOr i.target)
       → Settles (take_found i no_retry o found t)
-  settles-found o None t own live low k = inr (low, subst (λ o. IfSome o Recorded) (sym live) tt)
+  settles-found o None t own live low k = inr (low, found-done i None t.state live tt)
   settles-found o (Some r) t own live low k = settles-named r o t own live low k
 
   pub settles-told : (o : Op) (t : Taking) → is_outcome_of i.target o ≡ true → i.run ≤ t.state.runs
