@@ -1,4 +1,4 @@
-ghost use Rattle.std.specs.Prelude.{◌≡◌, ◌+◌, max, IfOk, OnOk};
+ghost use Rattle.std.specs.Prelude.{◌≡◌, ◌≤◌, ◌+◌, ◌^◌, max, IfOk, OnErr, OnOk};
 ghost use Rattle.machine.specs.Counts.{greatest_of, none};
 
 use lists::Memory;
@@ -41,6 +41,7 @@ impl Counts {
     pub(crate) fn next_event(&mut self) -> Result<u64, Memory>
         ensures number { IfOk result (λ n. n ≡ self.old.events + 1) }
         ensures counted { OnOk result (self.new ≡ record self.old { events = self.old.events + 1 }) }
+        ensures spent { OnErr result (2 ^ 64 ≤ self.old.events + 1) }
     {
         self.events = next(self.events)?;
         Ok(self.events)
@@ -50,6 +51,7 @@ impl Counts {
     pub(crate) fn next_run(&mut self) -> Result<u64, Memory>
         ensures number { IfOk result (λ n. n ≡ self.old.runs + 1) }
         ensures counted { OnOk result (self.new ≡ record self.old { runs = self.old.runs + 1 }) }
+        ensures spent { OnErr result (2 ^ 64 ≤ self.old.runs + 1) }
     {
         self.runs = next(self.runs)?;
         Ok(self.runs)
@@ -59,6 +61,7 @@ impl Counts {
     pub(crate) fn next_call(&mut self) -> Result<u64, Memory>
         ensures number { IfOk result (λ n. n ≡ self.old.calls + 1) }
         ensures counted { OnOk result (self.new ≡ record self.old { calls = self.old.calls + 1 }) }
+        ensures spent { OnErr result (2 ^ 64 ≤ self.old.calls + 1) }
     {
         self.calls = next(self.calls)?;
         Ok(self.calls)
@@ -75,14 +78,17 @@ impl Counts {
     pub(crate) fn next_entry(&mut self) -> Result<u64, Memory>
         ensures number { IfOk result (λ n. n ≡ self.old.entries + 1) }
         ensures counted { OnOk result (self.new ≡ record self.old { entries = self.old.entries + 1 }) }
+        ensures spent { OnErr result (2 ^ 64 ≤ self.old.entries + 1) }
     {
         self.entries = next(self.entries)?;
         Ok(self.entries)
     }
 }
 
+// It fails only where the numbers are spent.
 fn next(count: u64) -> Result<u64, Memory>
-    ensures { IfOk result (λ n. n ≡ count + 1) }
+    ensures number { IfOk result (λ n. n ≡ count + 1) }
+    ensures spent { OnErr result (2 ^ 64 ≤ count + 1) }
 {
     match count.checked_add(1) {
         Some(number) => Ok(number),

@@ -1,5 +1,5 @@
 // How a run ends: what of it goes, what its parent records, and the event of a failed run.
-ghost use Rattle.std.specs.Prelude.{◌≡◌, ◌≤◌, None, IfOk, OnOk};
+ghost use Rattle.std.specs.Prelude.{◌≡◌, ◌≤◌, ◌^◌, None, IfOk, OnErr, OnOk};
 ghost use Rattle.std.specs.Option.{option_map};
 ghost use Rattle.kinds.specs.Moments.{last_moment};
 ghost use Rattle.machine.specs.Ends.{ending_of};
@@ -268,7 +268,8 @@ fn is_of_failure(event: &[u8]) -> bool
 /// The id of a run. A number past 2^62 - 1 counts as want of memory.
 pub(crate) fn id_of(run: &Run) -> Result<[u8; 36], Memory>
     requires dated { run.now.moment ≤ last_moment }
-    ensures { IfOk result (λ id. id ≡ run_text run.now.moment run.now.number) }
+    ensures id { IfOk result (λ id. id ≡ run_text run.now.moment run.now.number) }
+    ensures spent { OnErr result (2 ^ 62 ≤ run.now.number) }
 {
     let number = run.number();
     if number > MOST_RUNS {
