@@ -19,5 +19,5 @@ up-to-within text None = omega arith
 up-to-within text (Some place) = simp length-take (omega arith)
 
 -- a line's text is no longer than the line
-pub text-within : (text : List ℕ) → length (text_of_line text) ≤ length text
-text-within text = up-to-within text (position (λ byte. byte == line_feed) text)
+pub text_within : (text : List ℕ) → length (text_of_line text) ≤ length text
+text_within text = up-to-within text (position (λ byte. byte == line_feed) text)

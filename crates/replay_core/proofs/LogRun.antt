@@ -1,5 +1,5 @@
 -- What file A holds when the run of a script ends.
-use Rattle.std.proofs.Common.{◌≡◌, ℕ, ◌<◌, ◌⊎◌, inl, inr, List, [], ◌∷◌, ◌++◌, length, take, Some, Result, Ok, Err, refl, ap, ◌∙◌, sym, subst, append_assoc, append-nil}
+use Rattle.std.proofs.Common.{◌≡◌, ℕ, ◌<◌, ◌⊎◌, inl, inr, List, [], ◌∷◌, ◌++◌, length, take, Some, Ok, Err, refl, ap, ◌∙◌, sym, subst, append_assoc, append-nil}
 use Rattle.std.proofs.Math.Seq.{take-append_seam}
 use Rattle.journal_core.specs.Records.{StandsFor}
 use Rattle.rig.specs.Flow.{Flow, Incoming}
@@ -8,12 +8,12 @@ use Rattle.rig.specs.Written.{Outgoing, FailsWriting, after_write}
 use Rattle.rig.proofs.WrittenLemmas.{write-nothing}
 use Rattle.replay_core.specs.Accepted.{accepted_line, accepted_lines}
 use Rattle.replay_core.specs.Ends.{end_of, unwritten}
-use Rattle.replay_core.specs.Log.{FinishesLog, GathersSome, HasLogged, Holds, HoldsOf, IsCutOff, IsCutShort, IsOnDisk, Logs, StopsLog, payloads_in}
+use Rattle.replay_core.specs.Log.{FinishesLog, GathersSome, HasLogged, Holds, HoldsOf, IsCutOff, IsCutShort, IsOnDisk, StopsLog, payloads_in}
 use Rattle.replay_core.specs.Pieces.{IsEnded, IsUnended, Lines, all_lines, last_line, lines_of}
 use Rattle.replay_core.specs.Reading.{Ahead}
-use Rattle.replay_core.specs.Replay.{Outcome, Goes, Stops, Ending, Outside, Spent, Progress, after_text, finish, on_line, on_lines, start, text_of, transcript}
+use Rattle.replay_core.specs.Replay.{Outcome, Goes, Stops, Ending, Outside, Spent, Progress, after_text, finish, on_line, on_lines, start, text_of}
 use Rattle.replay_core.specs.Run.{Finishes, Says}
-use Rattle.replay_core.specs.Script.{Gathers, GathersPrefix, HasRun, PutsPrefix, Replays}
+use Rattle.replay_core.specs.Script.{Gathers, HasRun, PutsPrefix, Replays}
 use Rattle.replay_core.specs.declared.end.LineFault.{LineFault}
 use Rattle.replay_core.specs.declared.end.LineFault.TheVariants as fault
 use Rattle.replay_core.specs.declared.end.ReplayEnd.{ReplayEnd}

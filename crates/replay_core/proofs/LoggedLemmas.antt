@@ -1,18 +1,17 @@
 -- One line over a journal, and the last line of a script.
-use Rattle.std.proofs.Common.{◌≡◌, ℕ, ◌<◌, ◌≤◌, ◌⊎◌, inl, inr, Bool, true, false, List, [], ◌∷◌, ◌++◌, length, nat_lt, Result, Ok, Err, refl, ap, ◌∙◌, sym, subst, append_assoc, append-nil, arith}
+use Rattle.std.proofs.Common.{◌≡◌, ℕ, ◌<◌, ◌⊎◌, inl, inr, Bool, true, false, List, [], ◌∷◌, ◌++◌, length, Ok, Err, refl, ap, ◌∙◌, sym, subst, append_assoc, append-nil, arith}
 use Rattle.rig.specs.MemoryRig.{MemoryRig}
 use Rattle.run_model.specs.State.{State}
 use Rattle.journal_core.specs.Records.{StandsFor}
 use Rattle.replay_core.specs.Accepted.{accepted_line, accepted_lines, is_accepted, line_where}
 use Rattle.replay_core.specs.Line.{read_line}
-use Rattle.replay_core.specs.Log.{FinishesLog, IsLogging, IsOnDisk, Logs, StandsForEither, StopsLog, payloads_in}
-use Rattle.replay_core.specs.Pieces.{last_line, text_of_line}
-use Rattle.replay_core.specs.Replay.{Outcome, Goes, Stops, Finished, Progress, end_line, finish, line_read, on_line, on_lines, passes_limits}
-use Rattle.replay_core.specs.Run.{Finishes, RunsAs, Says, SaysPrefix, transcript_of}
+use Rattle.replay_core.specs.Log.{FinishesLog, IsLogging, Logs, StandsForEither, StopsLog, payloads_in}
+use Rattle.replay_core.specs.Pieces.{last_line}
+use Rattle.replay_core.specs.Replay.{Outcome, Finished, Progress, end_line, finish, line_read, on_line, on_lines, passes_limits}
+use Rattle.replay_core.specs.Run.{Finishes, RunsAs, Says, transcript_of}
 use Rattle.replay_core.specs.declared.end.LineFault.{LineFault}
 use Rattle.replay_core.specs.declared.end.LineFault.TheVariants as fault
 use Rattle.replay_core.specs.declared.logged.Logged.{Logged}
-use Rattle.replay_core.specs.declared.progress.Ran.{Ran}
 use Rattle.replay_core.proofs.AcceptedLemmas.{accepted-one}
 use Rattle.replay_core.proofs.LogLemmas.{logging-stands, logs-stands}
 use Rattle.replay_core.proofs.ReplayLemmas.{on_lines-one}

@@ -1,11 +1,9 @@
 -- Inputs that lines are, in their ranges.
-use Rattle.std.proofs.Common.{◌≡◌, ℕ, ◌≤◌, ◌<◌, Bool, true, false, List, [], ◌∷◌, Option, Some, None, IfSome, Result, Ok, Err, if◌then◌else◌, refl, subst, sym, ◌∙◌, codes, bytes_eq}
+use Rattle.std.proofs.Common.{◌≡◌, ℕ, ◌≤◌, Bool, true, false, List, [], ◌∷◌, Option, Some, None, IfSome, Result, Ok, Err, if◌then◌else◌, refl, subst, sym, ◌∙◌, codes, bytes_eq}
 use Rattle.std.specs.Option.{option_and_then, option_map}
 use Rattle.std.specs.List.{AllByRecursion}
-use Rattle.event_keys.specs.Cells.{throttle_cell}
 use Rattle.intake.specs.Events.{events_in_body, fault_answer as events_answer}
 use Rattle.intake.specs.declared.fault.IntakeFault.{IntakeFault}
-use Rattle.kinds.specs.Cells.{IsThrottle}
 use Rattle.kinds.specs.Windows.{IsRule}
 use Rattle.kinds.specs.declared.event.EventIn.{EventIn}
 use Rattle.kinds.specs.declared.function.App.{App}
@@ -20,14 +18,13 @@ use Rattle.registry.specs.Answers.{fault_answer as register_answer}
 use Rattle.registry.specs.Apps.{read_app}
 use Rattle.registry.specs.Ranges.{IsBatchRead, IsDebounceRead, IsFunctionRead, IsThrottleRead, IsWithin}
 use Rattle.registry.specs.declared.fault.RegisterFault.{RegisterFault}
-use Rattle.requests.specs.Requests.{register_request, registered, requested, requested_events}
-use Rattle.requests.specs.declared.requested.Requested.{Requested}
+use Rattle.requests.specs.Requests.{registered, requested}
 use Rattle.requests.specs.declared.requested.Requested.TheVariants as asked
-use Rattle.run_model.specs.Events.{window_rule, window_rule_of}
-use Rattle.run_model.specs.Fit.{AreInRange, IsFunctionInRange, IsInRange, IsThrottleInRange}
+use Rattle.run_model.specs.Events.{window_rule}
+use Rattle.run_model.specs.Fit.{IsFunctionInRange, IsInRange, IsThrottleInRange}
 use Rattle.text_num.specs.Digits.{u64_of}
 use Rattle.text_num.specs.Duration.{longest}
-use Rattle.replay_core.specs.Line.{at_reading, at_word, event_line, event_of, events_line, is_passed, line_of_kind, numbered, numbered_line, read_line, registration_line, reply_call, reply_line, reply_to, reply_with, split_word, status_of, timed_line, word_line}
+use Rattle.replay_core.specs.Line.{at_reading, at_word, event_of, is_passed, line_of_kind, numbered, read_line, reply_call, reply_with, split_word, status_of}
 use Rattle.replay_core.specs.declared.line.Line.{Line}
 use Rattle.replay_core.specs.declared.line.Line.TheVariants as line
 use Rattle.std.specs.Result.{result_ok}

@@ -1,11 +1,11 @@
 -- Bytes that were read, and lines that are taken from them.
-use Rattle.std.proofs.Common.{◌≡◌, ℕ, ◌+◌, ◌-◌, ◌<◌, ◌≤◌, ◌==◌, List, [], ◌∷◌, ◌++◌, length, take, drop, Some, None, refl, ap, ◌∙◌, sym, subst, append_assoc, append-nil, arith, length-drop}
+use Rattle.std.proofs.Common.{◌≡◌, ℕ, ◌+◌, ◌-◌, ◌<◌, ◌≤◌, ◌==◌, List, [], ◌++◌, length, take, drop, Some, None, refl, ap, ◌∙◌, sym, subst, append_assoc, arith, length-drop}
 use Rattle.std.specs.List.{position, slice_range}
 use Rattle.std.specs.Option.{option_map}
 use Rattle.std.proofs.lemmas.List.{drop-drop, drop-take, length-take, take-append-drop}
-use Rattle.rig.specs.Flow.{Flow, HasGiven, Incoming, given_more}
+use Rattle.rig.specs.Flow.{HasGiven, Incoming, given_more}
 use Rattle.replay_core.specs.Pieces.{IsEnded, IsUnended, line_feed}
-use Rattle.replay_core.specs.Reading.{IsRead, ReadsOn}
+use Rattle.replay_core.specs.Reading.{ReadsOn}
 use Rattle.replay_core.proofs.PiecesLemmas.{front-line, lines-open, open-append, open-none, place-within, unended-open}
 
 -- what is unread behind the next n bytes

@@ -1,5 +1,5 @@
 -- What lines say, part after part.
-use Rattle.std.proofs.Common.{◌≡◌, ℕ, zero, suc, ◌+◌, ◌<◌, ◌≤◌, ◌==◌, true, List, [], ◌∷◌, ◌++◌, length, length-append, nat_lt, MatchBool, Bool, false, refl, ap, ◌∙◌, sym, append_assoc, append-nil, arith, get_or, Option, Some, None}
+use Rattle.std.proofs.Common.{◌≡◌, ℕ, zero, suc, ◌+◌, ◌≤◌, ◌==◌, true, List, [], ◌∷◌, ◌++◌, length, length-append, MatchBool, Bool, false, refl, ap, ◌∙◌, sym, append_assoc, append-nil, arith, get_or, Option, Some, None}
 use Rattle.std.specs.List.{position}
 use Rattle.std.proofs.lemmas.List.{length-take}
 use Rattle.std.proofs.lemmas.List.Quantifiers.{position-Some}
@@ -8,7 +8,7 @@ use Rattle.replay_core.specs.Accepted.{accepted_line, accepted_lines}
 use Rattle.replay_core.specs.Pieces.{IsEnded, IsUnended, all_lines, line_feed, lines_of, text_of_line, text_up_to}
 use Rattle.replay_core.specs.Replay.{Ending, Finished, Outcome, Goes, Stops, Outside, Progress, Transcript, after_text, and_then, end_line, finish, line_limit, on_line, on_lines, passes_limits, text_of}
 use Rattle.replay_core.specs.Run.{transcript_of}
-use Rattle.replay_core.proofs.LineLemmas.{text-within}
+use Rattle.replay_core.proofs.LineLemmas.{text_within}
 use Rattle.replay_core.proofs.PiecesLemmas.{IsOpen, ended-lines, first-line, unended-open}
 
 pub after-nil : (outcome : Outcome) → after_text [] outcome ≡ outcome
@@ -115,7 +115,7 @@ over-open progress (byte ∷ bytes) more is over =
     let longer : length (byte ∷ (bytes ++ first.0)) ≡ length (byte ∷ bytes) + length first.0 = length-append (byte ∷ bytes) first.0 in
     rw first.2 (over-first progress (byte ∷ (bytes ++ first.0)) first.1
     (either-passes progress.room (byte ∷ bytes) (byte ∷ (bytes ++ first.0)) (omega (arith, longer))
-    (open-text (byte ∷ bytes) first.0 is) (text-within (byte ∷ bytes)) over))
+    (open-text (byte ∷ bytes) first.0 is) (text_within (byte ∷ bytes)) over))
 
 -- whatever follows what was taken of the line
 pub over-limit : (progress : Progress) (ended : Bool) (line more : List ℕ) (P Q : Type 0) → MatchBool ended (IsEnded line × P) (IsUnended line × Q) → passes_limits progress.room line ≡ true → StopsOver progress (all_lines (lines_of (line ++ more)))

@@ -1,5 +1,5 @@
 -- Where the run of a script stands between two looks for a line, and how it ends.
-use Rattle.std.proofs.Common.{◌≡◌, ℕ, ◌+◌, ◌-◌, ◌*◌, ◌<◌, ◌≤◌, length-append, inl, inr, Bool, true, false, MatchBool, List, [], ◌∷◌, ◌++◌, length, Option, Some, Result, Ok, Err, refl, ap, ◌∙◌, sym, subst, append_assoc, append-nil, arith}
+use Rattle.std.proofs.Common.{◌≡◌, ℕ, ◌+◌, ◌-◌, ◌*◌, ◌<◌, ◌≤◌, length-append, inl, inr, Bool, true, false, MatchBool, List, [], ◌∷◌, ◌++◌, length, Option, Some, Ok, Err, refl, ap, ◌∙◌, sym, subst, append_assoc, append-nil, arith}
 use Rattle.rig.specs.Faults.{one_more}
 use Rattle.rig.specs.Flow.{Flow, Incoming, after_failed_read}
 use Rattle.rig.specs.MemoryRig.{MemoryRig}
@@ -12,7 +12,7 @@ use Rattle.replay_core.specs.Pieces.{IsEnded, IsUnended, Lines, all_lines, last_
 use Rattle.replay_core.specs.Reading.{Ahead, IsRead, ReadsOn}
 use Rattle.replay_core.specs.Replay.{Ending, Outcome, Goes, Stops, Outside, Spent, Progress, Transcript, after_text, finish, on_line, on_lines, start, transcript}
 use Rattle.replay_core.specs.Run.{Finishes, Says, transcript_of}
-use Rattle.replay_core.specs.Script.{CountsWrites, Gathered, Gathers, GathersPrefix, HasRun, IsSilentAt, PutsPrefix, Replays, Writes, read_faults, write_faults}
+use Rattle.replay_core.specs.Script.{CountsWrites, Gathered, Gathers, GathersPrefix, HasRun, IsSilentAt, Replays, Writes, read_faults, write_faults}
 use Rattle.replay_core.specs.declared.end.LineFault.{LineFault}
 use Rattle.replay_core.specs.declared.end.LineFault.TheVariants as fault
 use Rattle.replay_core.specs.declared.end.ReplayEnd.{ReplayEnd}

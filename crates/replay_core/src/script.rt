@@ -97,11 +97,13 @@ fn write_full<O: Sink>(said: &mut Bytes, out: &mut O) -> Result<(), WriteFailed>
     write_said(said, out)
 }
 
-// Whether a line, as far as it has come, passes what is left of a script, or the limit of a line.
+// Whether a line, as far as it has come, passes what is left of a script, or the limit of a line. A text is no
+// longer than its line, so a line within the limit isn't looked through again whenever more of it has come.
+#[tactic(auto, using(crate::proofs::LineLemmas::text_within))]
 fn passes_limits(room: usize, line: &[u8]) -> bool
     ensures { result ≡ passes_limits room line.now }
 {
-    line.len() > room || text_of_line(line).len() > LINE_LIMIT
+    line.len() > room || (line.len() > LINE_LIMIT && text_of_line(line).len() > LINE_LIMIT)
 }
 
 // Reads and runs lines until the source ends, and writes what they say, but for what has gathered.

@@ -1,11 +1,12 @@
 -- Texts that are said in parts, and the faults that are counted.
-use Rattle.std.proofs.Common.{◌≡◌, ℕ, ◌⊎◌, List, [], ◌++◌, Result, Ok, Err, inl, inr, ap, ◌∙◌, sym, subst, refl, codes, decimal}
+use Rattle.std.proofs.Common.{◌≡◌, ℕ, ◌⊎◌, List, [], ◌++◌, Option, Some, Result, Ok, Err, inl, inr, ap, ◌∙◌, sym, subst, refl, codes, decimal}
 use Rattle.rig.specs.Faults.{one_more}
 use Rattle.rig.specs.Written.{Outgoing, FailsWriting, PutsOut, after_write}
 use Rattle.rig.proofs.WrittenLemmas.{fails-more, write-fails, write-nothing, write-write}
 use Rattle.replay_core.specs.Script.{CountsWrites as CountsRun}
 use Rattle.replay_core.specs.declared.end.ReplayEnd.{ReplayEnd}
 use Rattle.replay_core.specs.declared.end.ReplayEnd.TheVariants as end
+use Rattle.replay_core.specs.declared.form.Form.{Form}
 use Rattle.top.specs.LastLine.{last_line, script_fault}
 use Rattle.top.specs.Outcome.{CountsOne, CountsWrites, Says, status_of}
 
@@ -36,6 +37,10 @@ unfolding script_fault
 fault-last line number result w0 w1 w2 w3 is h k last =
     puts-then (codes "script fault in line ") (decimal line ++ codes "\n") result w0 w1 w3 h
     (puts-then (decimal line) (codes "\n") result w1 w2 w3 (k ∙ ap (λ (t : List ℕ). after_write t w1) is) last)
+
+-- the words have one form
+pub same-form : (a b : Form) (words : Option Form) → words ≡ Some a → words ≡ Some b → a ≡ b
+same-form a b words is also = cc
 
 -- ## Counts
 

@@ -1,6 +1,5 @@
-use Rattle.std.proofs.Common.{◌≡◌, ◌∙◌, ◌++◌, List, ℕ, ap, arith, subst, sym}
+use Rattle.std.proofs.Common.{◌∙◌, ◌++◌, List, ℕ, ap, arith, subst, sym}
 use Rattle.std.proofs.lemmas.Result.{err_from_is_err_and}
-use Rattle.replay_core.specs.Accepted.{accepted_line, line_where}
 use Rattle.replay_core.specs.Log.{Logs, StandsForEither, payloads_in}
 use Rattle.replay_core.specs.Pieces.{text_of_line}
 use Rattle.replay_core.specs.Replay.{on_line}
