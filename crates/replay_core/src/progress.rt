@@ -212,6 +212,9 @@ fn step<L: Ledger>(
     machine: Machine,
     input: Input,
 ) -> Result<(Machine, Items<Out>), Memory>
+    requires name { blank.name ≡ L.name }
+    requires parts { blank.parts ≡ L.parts }
+    requires some { 0 < blank.parts }
     requires accepted { Accepts machine input }
     requires ranges { IsInRange input }
     ensures { IfOk result
