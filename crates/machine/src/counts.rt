@@ -47,16 +47,6 @@ impl Counts {
         Ok(self.events)
     }
 
-    /// The next run's number.
-    pub(crate) fn next_run(&mut self) -> Result<u64, Memory>
-        ensures number { IfOk result (λ n. n ≡ self.old.runs + 1) }
-        ensures counted { OnOk result (self.new ≡ record self.old { runs = self.old.runs + 1 }) }
-        ensures spent { OnErr result (2 ^ 64 ≤ self.old.runs + 1) }
-    {
-        self.runs = next(self.runs)?;
-        Ok(self.runs)
-    }
-
     /// The next call's number.
     pub(crate) fn next_call(&mut self) -> Result<u64, Memory>
         ensures number { IfOk result (λ n. n ≡ self.old.calls + 1) }
