@@ -1,6 +1,7 @@
 ghost use Rattle.std.specs.Prelude.{◌≡◌, IfOk, MatchResult, None, Some};
 ghost use Rattle.run_model.specs.Machine.{refusal, refusal_of_call, refusal_of_cancel, refusal_of_events, refusal_of_registration};
 ghost use Rattle.run_model.specs.State.{empty, greatest, kept, live, live_run, open_issue};
+ghost use Rattle.machine.specs.Held.{IsReady};
 ghost use Rattle.machine.specs.Numbers.{nothing};
 ghost use Rattle.machine.specs.View.{state_of};
 
@@ -28,19 +29,21 @@ const SPENT: u64 = 1 << 61;
 /// The machine between two inputs. Contracts see it as the documented machine's state.
 #[derive(Drop)]
 pub struct Machine {
-    pub(crate) parts: Parts,
+    // On the heap, so that a machine moves and goes as one pointer.
+    pub(crate) parts: Box<Parts>,
 }
 
 impl Model for Machine {
+    ghost use Rattle.std.specs.Prelude.{box_value};
     ghost use Rattle.run_model.specs.State.{State};
     ghost use Rattle.machine.specs.Held.{IsReady};
     ghost use Rattle.machine.specs.View.{state_of};
 
     ghost Value = { State };
 
-    ghost view = { λ m. state_of m.parts };
+    ghost view = { λ m. state_of (box_value m.parts) };
 
-    ghost invariant = { λ m. IsReady m.parts };
+    ghost invariant = { λ m. IsReady (box_value m.parts) };
 }
 
 impl Machine {
@@ -48,9 +51,15 @@ impl Machine {
     pub fn empty(alloc: Global, limits: Limits) -> Result<Self, Memory>
         ensures { IfOk result (λ m. m ≡ empty limits) }
     {
-        Ok(Machine {
-            parts: Parts::empty(alloc, limits),
-        })
+        let parts = Box::new(alloc, Parts::empty(alloc, limits))?;
+        Ok(Machine { parts })
+    }
+
+    pub(crate) fn parts(&self) -> &Parts
+        ensures state { state_of result.now ≡ self.now }
+        ensures ready { IsReady result.now }
+    {
+        &self.parts
     }
 
     /// The moment of the last input, in milliseconds since 1970.
@@ -92,7 +101,8 @@ impl Machine {
     fn kept(&self) -> u64
         ensures { result ≡ kept self.now }
     {
-        self.parts.texts.bytes() + self.parts.runs.results() + self.parts.seen.weight()
+        let parts = self.parts();
+        parts.texts.bytes() + parts.runs.results() + parts.seen.weight()
     }
 
     /// Whether the machine as it stands takes an input, and if not, the first reason why.
@@ -120,12 +130,13 @@ impl Machine {
             (λ _. refusal_of_events self.now ≡ None)
             (λ cause. refusal_of_events self.now ≡ Some cause) }
     {
+        let parts = self.parts();
         let kept = self.kept();
-        if kept >= self.parts.limits.kept {
+        if kept >= parts.limits.kept {
             return Err(Refusal::KeptFull { kept });
         }
         let live = self.live();
-        if live >= self.parts.limits.live {
+        if live >= parts.limits.live {
             return Err(Refusal::RunsFull { live });
         }
         Ok(())
@@ -163,9 +174,10 @@ impl Machine {
             (λ _. refusal_of_cancel run (live_run run self.now) self.now ≡ None)
             (λ cause. refusal_of_cancel run (live_run run self.now) self.now ≡ Some cause) }
     {
-        match self.parts.runs.live(run) {
+        let parts = self.parts();
+        match parts.runs.live(run) {
             Some(_) => Ok(()),
-            None if self.parts.ended.is_last(run) => Err(Refusal::RunEnded { run }),
+            None if parts.ended.is_last(run) => Err(Refusal::RunEnded { run }),
             None => Err(Refusal::UnknownRun { run }),
         }
     }

@@ -34,7 +34,8 @@ impl Machine {
     pub fn next_moment(&self) -> Option<u64>
         ensures { result ≡ next_moment self.now }
     {
-        earliest(self.parts.next_due(), self.parts.admission.next_item())
+        let parts = self.parts();
+        earliest(parts.next_due(), parts.admission.next_item())
     }
 
     /// A run that has not ended, or is among the last thousand that have. Takes no memory.
@@ -86,12 +87,13 @@ impl Machine {
     pub fn runs_of(&self, event: u64) -> Result<Numbers, Memory>
         ensures { IfOk result (λ ns. ns ≡ runs_of event self.now) }
     {
-        let live = self.parts.runs.of_event(event)?;
-        let ended = self.parts.ended.of_event(event)?;
-        let mut runs = BTreeSet::new(self.parts.alloc);
+        let parts = self.parts();
+        let live = parts.runs.of_event(event)?;
+        let ended = parts.ended.of_event(event)?;
+        let mut runs = BTreeSet::new(parts.alloc);
         add_all(&mut runs, live.as_slice())?;
         add_all(&mut runs, ended.as_slice())?;
-        to_numbers(self.parts.alloc, &runs)
+        to_numbers(parts.alloc, &runs)
     }
 }
 

@@ -3,5 +3,5 @@ use Rattle.machine.proofs.machine.Machine.next_moment.Goals as goal
 
 pub returns : goal.returns
 returns c =
-    next-of-parts c.self.inside.parts c.args.self.now c.earliest.result c.next_due.result c.next_item.result
-    c.self.view_is c.self.invariant.rest.now c.earliest.ensures c.next_due.ensures c.next_item.ensures
+    next-of-parts c.parts-parts.result.now c.args.self.now c.earliest.result c.next_due.result c.next_item.result
+    c.parts-parts.ensures.state c.parts-parts.ensures.ready.rest.now c.earliest.ensures c.next_due.ensures c.next_item.ensures
