@@ -1,0 +1,3 @@
+//! The inputs that the generator of `replay` makes, and what they make of the documented machine. Stands on `run_model`;
+//! has laws alone.
+#![tactic(auto)]
