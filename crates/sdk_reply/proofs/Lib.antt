@@ -3,3 +3,4 @@ mod Digits
 mod Lists
 mod Newest
 mod Roots
+mod Words

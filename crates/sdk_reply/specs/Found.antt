@@ -1,5 +1,5 @@
 -- The members of an operation that are read, found in one pass over all of them.
-use Rattle.std.specs.Prelude.{◌≡◌, ◌||◌, ℕ, Bool, cond, List, bytes_eq, codes}
+use Rattle.std.specs.Prelude.{◌≡◌, ℕ, Bool, cond, List, bytes_eq, codes}
 use Rattle.std.specs.Prelude.{Option, Some, IfSome, option_map}
 use Rattle.json_text.specs.Grammar.{Json}
 use Rattle.json_text.specs.Nodes.{Document, IsNodeOf, value_at}
@@ -39,12 +39,6 @@ parts_at d members = record {
   opts = option_map (value_at d) members.opts;
   name = option_map (value_at d) members.name;
 }
-
--- one of the names that are read
-abbrev pub is_asked : List ℕ → Bool
-is_asked written =
-    bytes_eq written (codes "id") || bytes_eq written (codes "op") || bytes_eq written (codes "data")
-    || bytes_eq written (codes "error") || bytes_eq written (codes "opts") || bytes_eq written (codes "name")
 
 -- a later member of a name takes the place of an earlier one
 abbrev pub newer : Bool → ℕ → Option ℕ → Option ℕ

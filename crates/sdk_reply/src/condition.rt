@@ -1,13 +1,14 @@
 ghost use Rattle.std.specs.Prelude.{◌≡◌, IfOk, IfSome, option_map};
 ghost use Rattle.cel_parse.specs.Faults.{parse_text};
-ghost use Rattle.json_text.specs.Nodes.{IsNodeOf, value_at};
+ghost use Rattle.json_text.specs.Nodes.{IsNodeOf, kind_of, value_at};
+ghost use Rattle.json_text.specs.Text.{text_of};
+ghost use Rattle.json_text.specs.declared.kind.Kind.TheVariants as kind;
 ghost use Rattle.sdk_reply.specs.Operations.{condition_in, optional_condition, parsed};
 
-use crate::members::text_in;
 use crate::part::Part;
 use cel_parse::{ParseFault, parse};
 use expr::Expr;
-use json_text::{Node, Tree};
+use json_text::{Kind, Node, Tree};
 use lists::Memory;
 use std::alloc::Global;
 
@@ -20,12 +21,21 @@ pub(crate) fn optional_condition(
     requires { IfSome node (IsNodeOf tree.now) }
     ensures { IfOk result (λ part. part ≡ optional_condition (option_map (value_at tree.now) node)) }
 {
-    if node.is_none() {
-        return Ok(Part::Absent);
+    match node {
+        None => Ok(Part::Absent),
+        Some(node) if tree.kind(node) == Kind::Text => condition_of(alloc, tree, node),
+        Some(_) => Ok(Part::Invalid),
     }
-    match text_in(tree, node)? {
-        Some(text) => parsed(alloc, text.as_slice()),
-        None => Ok(Part::Invalid),
+}
+
+fn condition_of(alloc: Global, tree: &Tree<'_>, node: Node) -> Result<Part<Expr>, Memory>
+    requires node { IsNodeOf tree.now node }
+    requires text { kind_of (value_at tree.now node) ≡ kind.Text }
+    ensures { IfOk result (λ part. part ≡ parsed (parse_text (text_of (value_at tree.now node)))) }
+{
+    match tree.plain_text(node) {
+        Some(text) => parsed(alloc, text),
+        None => parsed(alloc, tree.text_of(node)?.as_slice()),
     }
 }
 

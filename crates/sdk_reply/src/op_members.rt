@@ -1,7 +1,5 @@
-ghost use Rattle.std.specs.Prelude.{◌≡◌, IfSome};
-ghost use Rattle.json_text.specs.Nodes.{IsNodeOf, value_at};
+ghost use Rattle.std.specs.Prelude.{◌≡◌};
 ghost use Rattle.json_text.specs.Plain.{is_no_escape, is_plain};
-ghost use Rattle.sdk_reply.specs.Found.{AreMembers, is_asked, newer, with_member};
 
 use crate::members::{inside, member_of};
 use json_text::{Node, Tree};
@@ -20,6 +18,7 @@ pub(crate) struct OpMembers {
 impl OpMembers {
     ghost use Rattle.std.specs.Prelude.{◌≡◌, IfSome};
     ghost use Rattle.json_text.specs.Nodes.{IsNodeOf, value_at};
+    ghost use Rattle.json_text.specs.Plain.{is_plain};
     ghost use Rattle.sdk_reply.specs.Found.{AreMembers, with_member};
 
     /// Of the operation at a node, in one pass where no name has an escape.
@@ -47,11 +46,9 @@ impl OpMembers {
             name: None,
         };
         for (name, value) in tree.members(node) {
-            let text = inside(tree.slice(name));
-            if !is_plain_name(text) {
+            if !members.take(inside(tree.slice(name)), value) {
                 return None;
             }
-            members = members.with(text, value);
         }
         Some(members)
     }
@@ -72,44 +69,34 @@ impl OpMembers {
         }
     }
 
-    /// With one more member behind the others.
-    fn with(self, name: &[u8], value: Node) -> Self
-        ensures { result ≡ with_member self name.now value }
+    /// With one more member behind the others. False where its name has an escape: those that are read
+    /// have none, so that only the others are searched for one.
+    fn take(&mut self, name: &[u8], value: Node) -> bool
+        ensures plain { result ≡ is_plain name.now }
+        ensures members { self.new ≡ with_member self.old name.now value }
     {
-        OpMembers {
-            id: newer(name == b"id".as_slice(), value, self.id),
-            op: newer(name == b"op".as_slice(), value, self.op),
-            data: newer(name == b"data".as_slice(), value, self.data),
-            error: newer(name == b"error".as_slice(), value, self.error),
-            opts: newer(name == b"opts".as_slice(), value, self.opts),
-            name: newer(name == b"name".as_slice(), value, self.name),
+        if name == b"id".as_slice() {
+            self.id = Some(value);
+            true
+        } else if name == b"op".as_slice() {
+            self.op = Some(value);
+            true
+        } else if name == b"data".as_slice() {
+            self.data = Some(value);
+            true
+        } else if name == b"error".as_slice() {
+            self.error = Some(value);
+            true
+        } else if name == b"opts".as_slice() {
+            self.opts = Some(value);
+            true
+        } else if name == b"name".as_slice() {
+            self.name = Some(value);
+            true
+        } else {
+            is_plain(name)
         }
     }
-}
-
-/// A later member of a name takes the place of an earlier one.
-fn newer(named: bool, value: Node, found: Option<Node>) -> Option<Node>
-    ensures { result ≡ newer named value found }
-{
-    if named { Some(value) } else { found }
-}
-
-/// Whether a name has no escape: one that is read has none, so that only the others are searched.
-fn is_plain_name(name: &[u8]) -> bool
-    ensures { result ≡ is_plain name.now }
-{
-    if is_asked(name) { true } else { is_plain(name) }
-}
-
-fn is_asked(name: &[u8]) -> bool
-    ensures { result ≡ is_asked name.now }
-{
-    name == b"id".as_slice()
-        || name == b"op".as_slice()
-        || name == b"data".as_slice()
-        || name == b"error".as_slice()
-        || name == b"opts".as_slice()
-        || name == b"name".as_slice()
 }
 
 /// Whether a string stands for itself between its quotes.

@@ -4,6 +4,7 @@ ghost use Rattle.json_text.specs.Text.{text_of};
 ghost use Rattle.json_text.specs.declared.kind.Kind.TheVariants as kind;
 ghost use Rattle.sdk_reply.specs.Operations.{word_in, word_of};
 
+use crate::members::inside;
 use json_text::{Kind, Node, Tree};
 use lists::Memory;
 
@@ -31,7 +32,21 @@ pub(crate) fn word_in(tree: &Tree<'_>, node: Node) -> Result<OpWord, Memory>
     }
 }
 
+// No word has an escape, so that one which is written as it stands is found at once.
 fn word_at(tree: &Tree<'_>, node: Node) -> Result<OpWord, Memory>
+    requires node { IsNodeOf tree.now node }
+    requires text { kind_of (value_at tree.now node) ≡ kind.Text }
+    ensures { IfOk result (λ word. word ≡ word_of (text_of (value_at tree.now node))) }
+{
+    match word_of(inside(tree.slice(node))) {
+        OpWord::Unknown => escaped_word(tree, node),
+        word => Ok(word),
+    }
+}
+
+/// The same of a text that may have escapes.
+#[inline(never)]
+fn escaped_word(tree: &Tree<'_>, node: Node) -> Result<OpWord, Memory>
     requires node { IsNodeOf tree.now node }
     requires text { kind_of (value_at tree.now node) ≡ kind.Text }
     ensures { IfOk result (λ word. word ≡ word_of (text_of (value_at tree.now node))) }

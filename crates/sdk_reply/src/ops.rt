@@ -10,6 +10,9 @@ use kinds::Op;
 use lists::{Items, Memory};
 use std::alloc::Global;
 
+/// The least length of an operation, in bytes: a step that ran and gave nothing.
+const LEAST_OPERATION: usize = 64;
+
 /// Why values are no list of operations.
 #[derive(Drop)]
 pub(crate) enum OpsFault {
@@ -35,7 +38,8 @@ pub(crate) fn read_ops(alloc: Global, tree: &Tree<'_>, list: Node) -> Result<Ite
     requires { IsNodeOf tree.now list }
     ensures { OrStarved fault.Memory (ops_at tree.now (item_nodes tree.now list)) result }
 {
-    let mut ops = Items::new(alloc);
+    let room = tree.len(list).min(tree.slice(list).len() / LEAST_OPERATION);
+    let mut ops = Items::with_room(alloc, room)?;
     for node in tree.items(list) {
         if !push_operation(&mut ops, alloc, tree, node)? {
             return Err(OpsFault::NotValid {

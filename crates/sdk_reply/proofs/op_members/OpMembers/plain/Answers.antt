@@ -22,8 +22,8 @@ loop-name-preserved c =
     let here = subst (λ (left : List (ℕ × ℕ)). IsPassing d j left c.loop-name.members) c.in-Some.ensures.steps c.loop-name.invariant.2 in (
       tt,
       tt,
-      passing-more d j c.in-Some.name c.in-Some.value c.next.new.self c.loop-name.members c.with-members.result c.inside-text.result.now here
-          (c.inside-text.ensures ∙ ap inside c.slice.ensures) (sym c.is_plain_name.ensures ∙ c.if-not-is_plain_name.false) c.with-members.ensures,
+      passing-more d j c.in-Some.name c.in-Some.value c.next.new.self c.loop-name.members c.take.new.self c.inside.result.now here
+          (c.inside.ensures ∙ ap inside c.slice.ensures) (sym c.take.ensures.plain ∙ c.if-not-take.false) c.take.ensures.members,
     )
 
 pub returns : goal.returns
