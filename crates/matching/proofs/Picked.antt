@@ -15,7 +15,7 @@ use Rattle.std.proofs.lemmas.Map.Views.{any-filter_same}
 use Rattle.lists.specs.Entries.{has, key_of, pair_cmp, AreApart, IsInOrder}
 use Rattle.ordered.specs.Indexes.{group_cmp, has_part, IsListed}
 use Rattle.ordered.proofs.Listed.{group_at}
-use Rattle.ordered.proofs.Apart.{number_tells, at_number, found}
+use Rattle.ordered.proofs.Apart.{number_tells, at_number}
 use Rattle.ordered.proofs.Members.{same_at, same_members}
 use Rattle.matching.specs.Places.{has_number}
 use Rattle.matching.specs.Met.{passes}
