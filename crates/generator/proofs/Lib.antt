@@ -1,3 +1,5 @@
 pub mod Sums
 pub mod Bodies
 pub mod Outcomes
+pub mod Standing
+pub mod Steps
