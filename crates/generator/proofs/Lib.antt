@@ -3,3 +3,5 @@ pub mod Bodies
 pub mod Outcomes
 pub mod Standing
 pub mod Steps
+pub mod Discoveries
+pub mod EventSteps
