@@ -1,15 +1,14 @@
 -- What the bodies of the generator's replies are read as.
-use Rattle.std.proofs.Common.{◌≡◌, ℕ, ◌+◌, ◌/◌, ◌%◌, ◌^◌, ◌<◌, ◌≤◌, ◌==◌, ◌&&◌, Bool, true, false, cond, nat_le, List, [], ◌∷◌, ◌++◌, codes, length, Option, Some, None, Result, Ok, Err, refl, sym, ap, subst, ◌∙◌, inl, inr, append-nil, arith}
+use Rattle.std.proofs.Common.{◌≡◌, ℕ, ◌+◌, ◌/◌, ◌%◌, ◌^◌, ◌<◌, ◌≤◌, Bool, true, false, cond, nat_le, List, [], ◌∷◌, ◌++◌, codes, length, Option, Some, None, Ok, Err, refl, sym, ap, subst, ◌∙◌, inl, inr, append-nil, arith}
 use Rattle.std.specs.Prelude.{decimal, option_and_then}
 use Rattle.std.proofs.lemmas.Bool.Decides.{nat_tests}
 use Rattle.std.proofs.lemmas.Fmt.{decimal_by_steps}
 use Rattle.json_text.specs.Automaton as json
 use Rattle.json_text.specs.Automaton.{Frame, State, next, after, closed, put, run, start, state, value_of}
 use Rattle.json_text.specs.Bytes.{Each, is_digit, is_leading_digit}
-use Rattle.json_text.specs.Grammar.{Json, null, number, text, array, object, spelling, Parts, no_parts, part, element, member, name, nothing, whole}
+use Rattle.json_text.specs.Grammar.{Json, null, number, text, array, object, spelling, Parts, no_parts, part, element, member, whole}
 use Rattle.json_text.specs.Lexical.{IsNumber, IsPositive}
-use Rattle.json_text.specs.Texts.{end_at, go_on, read_from, read_text}
-use Rattle.json_text.specs.declared.fault.JsonFault.{JsonFault}
+use Rattle.json_text.specs.Texts.{go_on, read_from, read_text}
 use Rattle.json_text.specs.declared.fault.JsonFault.TheVariants.{TooDeep}
 use Rattle.generator.specs.Inputs.{step}
 use Rattle.json_text.proofs.Reading.{IsAt, at-step, number-run, run-append, run-one}

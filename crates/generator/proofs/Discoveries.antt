@@ -1,5 +1,5 @@
 -- Which runs find out what comes next: those with an item or an open call do.
-use Rattle.std.proofs.Common.{◌≡◌, ℕ, ◌+◌, ◌<◌, ◌≤◌, ◌==◌, Bool, true, false, cond, not, ◌&&◌, ◌||◌, nat_lt, List, [], ◌∷◌, find, Option, Some, None, inl, inr, refl, sym, ap, subst, ◌∙◌, eq-eqb, eqb-true, arith}
+use Rattle.std.proofs.Common.{◌≡◌, ℕ, ◌+◌, ◌<◌, ◌≤◌, ◌==◌, Bool, true, false, cond, not, ◌&&◌, ◌||◌, nat_lt, List, [], ◌∷◌, find, Some, None, inl, inr, refl, sym, ap, subst, ◌∙◌, eq-eqb, eqb-true, arith}
 use Rattle.std.proofs.lemmas.Bool.Decides.{nat_tests}
 use Rattle.std.specs.Str.{bytes_eq}
 use Rattle.std.specs.List.{AllByRecursion, list_any}
@@ -9,10 +9,10 @@ use Rattle.lists.proofs.Elements.{all-weaker}
 use Rattle.run_model.specs.Laws.{IsIn}
 use Rattle.run_model.specs.Making.{discover, discover_all, discover_one, has_discovery, is_item_of, new_item, queue_new, step_target}
 use Rattle.run_model.specs.State.{State, Run, Issue}
-use Rattle.run_model.proofs.Members.{all-in, in-all}
+use Rattle.run_model.proofs.Members.{all-in}
 use Rattle.run_model.proofs.SettlingLists.{or-left, or-right}
 use Rattle.generator.proofs.Sums.{count, count-none, none-any, one_if}
-use Rattle.generator.proofs.Standing.{IsIssue, IsItem, Stands, aside, is_call_of, is_run, no-items, not-of}
+use Rattle.generator.proofs.Standing.{IsIssue, IsItem, Stands, is_call_of, is_run, no-items, not-of}
 
 -- ## Tests
 
@@ -85,8 +85,8 @@ none-discovered : (rs : List Run) (s : State) → AllByRecursion (λ (y : Run). 
 none-discovered [] s h = refl
 none-discovered (y ∷ ys) s h =
     let stays : discover_one y s ≡ s =
-        ap (λ b. cond (y.wanted && not b) (queue_new y step_target s) s) h.0
-        ∙ ap (λ b. cond b (queue_new y step_target s) s) (and-false y.wanted) in
+    ap (λ b. cond (y.wanted && not b) (queue_new y step_target s) s) h.0
+    ∙ ap (λ b. cond b (queue_new y step_target s) s) (and-false y.wanted) in
     ap (discover_all ys) stays ∙ none-discovered ys s h.1
 
 all-discovered : (n e r c : ℕ) (s : State) → Stands n e r c None s
@@ -136,8 +136,8 @@ one-discovered (y ∷ ys) x s found once wanted none others =
       | true ↦ λ here f o.
           let same : y ≡ x = cc in
           let queued : discover_one x s ≡ queue_new x step_target s =
-              ap (λ b. cond (b && not (has_discovery s x.number)) (queue_new x step_target s) s) wanted
-              ∙ ap (λ b. cond (not b) (queue_new x step_target s) s) none in
+          ap (λ b. cond (b && not (has_discovery s x.number)) (queue_new x step_target s) s) wanted
+          ∙ ap (λ b. cond (not b) (queue_new x step_target s) s) none in
           let rest = count-none (is_run x.number) ys (omega (arith, o)) in
           ap (λ z. discover_all ys (discover_one z s)) same
           ∙ ap (discover_all ys) queued
@@ -145,8 +145,8 @@ one-discovered (y ∷ ys) x s found once wanted none others =
           (still-all ys rest others.1)
       | false ↦ λ other f o.
           let stays : discover_one y s ≡ s =
-              ap (λ b. cond (y.wanted && not b) (queue_new y step_target s) s) (others.0 other)
-              ∙ ap (λ b. cond b (queue_new y step_target s) s) (and-false y.wanted) in
+          ap (λ b. cond (y.wanted && not b) (queue_new y step_target s) s) (others.0 other)
+          ∙ ap (λ b. cond b (queue_new y step_target s) s) (and-false y.wanted) in
           ap (discover_all ys) stays
           ∙ one-discovered ys x s f (omega (arith, o)) wanted none others.1
     ]) refl found once
@@ -174,14 +174,14 @@ module _ (n e r c m : ℕ) (s : State) (h : Stands n e r c (Some m) s) where
       let before = h.balance m in
       let own : one_if (m == m) ≡ 1 = ap one_if (eq-eqb m m refl) in
       let items =
-          none-any (is_item_of m step_target) s.items
-          (all-weaker (λ i. has_run m i ≡ false) (λ i. is_item_of m step_target i ≡ false) s.items
-          (not-of m step_target) (no-items n e r c m s h)) in
+      none-any (is_item_of m step_target) s.items
+      (all-weaker (λ i. has_run m i ≡ false) (λ i. is_item_of m step_target i ≡ false) s.items
+      (not-of m step_target) (no-items n e r c m s h)) in
       let calls =
-          none-any (λ (i : Issue). is_item_of m step_target i.item) s.issues
-          (all-weaker (λ i. is_call_of m i ≡ false) (λ (i : Issue). is_item_of m step_target i.item ≡ false)
-          s.issues (λ i. not-of m step_target i.item)
-          (count-none (is_call_of m) s.issues (omega (arith, most, before, own)))) in
+      none-any (λ (i : Issue). is_item_of m step_target i.item) s.issues
+      (all-weaker (λ i. is_call_of m i ≡ false) (λ (i : Issue). is_item_of m step_target i.item ≡ false)
+      s.issues (λ i. not-of m step_target i.item)
+      (count-none (is_call_of m) s.issues (omega (arith, most, before, own)))) in
       or-false (list_any (is_item_of m step_target) s.items)
       (list_any (λ (i : Issue). is_item_of m step_target i.item) s.issues) items calls
 

@@ -1,22 +1,20 @@
 -- An event of the generator starts a run, and its call is made where its user's cell is free.
-use Rattle.std.proofs.Common.{◌≡◌, ℕ, suc, ◌+◌, ◌*◌, ◌/◌, ◌%◌, ◌^◌, ◌==◌, ◌<◌, ◌≤◌, Bool, true, false, cond, ◌&&◌, ◌||◌, nat_lt, List, [], ◌∷◌, ◌++◌, codes, find, length, length-append, Option, Some, None, refl, sym, ap, subst, ◌∙◌, arith}
+use Rattle.std.proofs.Common.{◌≡◌, ℕ, suc, ◌+◌, ◌*◌, ◌/◌, ◌%◌, ◌^◌, ◌==◌, ◌<◌, ◌≤◌, true, false, cond, ◌&&◌, ◌||◌, nat_lt, List, [], ◌∷◌, ◌++◌, codes, find, length, length-append, Some, None, refl, sym, ap, subst, ◌∙◌, arith}
 use Rattle.std.specs.Prelude.{decimal}
 use Rattle.std.specs.List.{AllByRecursion}
 use Rattle.std.specs.Option.{option_map}
-use Rattle.std.specs.Str.{bytes_eq}
 use Rattle.std.specs.Str.Parse.{digits_value}
 use Rattle.std.proofs.lemmas.Fmt.{decimal_is_IsNumeral, length-decimal-le}
 use Rattle.intake.specs.Events.{event_text}
 use Rattle.json_text.specs.Text.{escaped, escaped_byte, hex_digit}
 use Rattle.kinds.specs.Seen.{find_seen, has_id, is_remembered}
 use Rattle.kinds.specs.declared.event.Event.{Event}
-use Rattle.kinds.specs.declared.event.EventIn.{EventIn}
 use Rattle.kinds.specs.declared.seen.SeenEntry.{SeenEntry}
 use Rattle.lists.proofs.Elements.{all-weaker}
 use Rattle.lists.proofs.Texts.{bytes_same}
 use Rattle.run_model.specs.Events.{event_with, follow}
 use Rattle.run_model.specs.Machine.{act}
-use Rattle.run_model.specs.Making.{first_of, make_run, queue_new, run_with, step_target, text_or_none}
+use Rattle.run_model.specs.Making.{make_run, queue_new, run_with, step_target, text_or_none}
 use Rattle.run_model.specs.Requests.{Answering, accept, answer_event, on_events, repeats}
 use Rattle.run_model.specs.State.{State, Run, text_of}
 use Rattle.generator.specs.Inputs.{event, event_input}
@@ -37,10 +35,10 @@ other-id e i few h =
     → b ≡ false) [
       | true ↦ λ same.
           let ids : codes "g" ++ decimal (suc e) ≡ codes "g" ++ decimal h.0 =
-              bytes_same (codes "g" ++ decimal (suc e)) i.id same ∙ h.2 in
+          bytes_same (codes "g" ++ decimal (suc e)) i.id same ∙ h.2 in
           let numbers : suc e ≡ h.0 =
-              same-decimal (suc e) h.0 (omega arith) (let low = h.1 in omega (arith, low))
-              (same-behind (decimal (suc e)) (decimal h.0) ids) in
+          same-decimal (suc e) h.0 (omega arith) (let low = h.1 in omega (arith, low))
+          (same-behind (decimal (suc e)) (decimal h.0) ids) in
           let low : h.0 ≤ e = h.1 in absurd (omega (arith, numbers, low))
       | false ↦ λ other. refl
     ]) refl
@@ -138,8 +136,8 @@ event-acts n e r c user s few known h =
     let x : Run = run_for ev id s in
     let own : IsRun x = own-run ev.number (text_or_none (text_of ev.number (received ev id s))) (received ev id s) in
     let none =
-        none-seen id s.moment s.seen
-        (all-weaker (IsId e) (λ i. has_id id i ≡ false) s.seen (λ i k. other-id e i few k) h.ids) in
+    none-seen id s.moment s.seen
+    (all-weaker (IsId e) (λ i. has_id id i ≡ false) s.seen (λ i k. other-id e i few k) h.ids) in
     subst (λ z. Stands n (suc e) r (c + 2) None z)
     (sym (answered user (suc e) s none ∙ accepted user (suc e) s h.constant))
     (stands-queued n (suc e) r (c + 2) x (with_new x (received ev id s)) own

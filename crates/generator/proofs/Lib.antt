@@ -5,3 +5,6 @@ pub mod Standing
 pub mod Steps
 pub mod Discoveries
 pub mod EventSteps
+pub mod ReplySteps
+pub mod Accepting
+pub mod Generating

@@ -1,13 +1,11 @@
 -- What the generator's replies are taken for.
-use Rattle.std.proofs.Common.{◌≡◌, ℕ, ◌^◌, ◌<◌, Bool, false, List, [], ◌∷◌, ◌++◌, codes, Option, None, Result, Ok, refl, ap, ◌∙◌}
+use Rattle.std.proofs.Common.{◌≡◌, ℕ, ◌^◌, ◌<◌, false, List, [], ◌∷◌, codes, None, Result, Ok, refl, ap, ◌∙◌}
 use Rattle.std.specs.Prelude.{decimal}
-use Rattle.json_text.specs.Grammar.{Json, null}
+use Rattle.json_text.specs.Grammar.{Json}
 use Rattle.json_text.specs.Text.{text_from}
-use Rattle.json_text.specs.Texts.{read_text}
 use Rattle.json_text.specs.declared.fault.JsonFault.{JsonFault}
 use Rattle.kinds.specs.declared.reply.After.TheVariants as after
 use Rattle.kinds.specs.declared.reply.Op.TheVariants.{StepRun}
-use Rattle.kinds.specs.declared.reply.Outcome.{Outcome}
 use Rattle.kinds.specs.declared.reply.Outcome.TheVariants.{Ended, Ops}
 use Rattle.kinds.specs.declared.reply.ReplyIn.{ReplyIn}
 use Rattle.sdk_reply.specs.Operations.{op_of}

@@ -1,17 +1,16 @@
 -- What holds of the states that the generator's inputs lead to, and what each change leaves of it.
-use Rattle.std.proofs.Common.{◌≡◌, ℕ, suc, ◌+◌, ◌*◌, ◌<◌, ◌≤◌, ◌==◌, Bool, true, false, not, cond, ◌||◌, ◌&&◌, nat_lt, List, [], ◌∷◌, ◌++◌, codes, filter, find, length, map, Option, Some, None, IfSome, refl, sym, ap, subst, ◌∙◌, eqb-true, eq-eqb, arith}
+use Rattle.std.proofs.Common.{◌≡◌, ℕ, suc, ◌+◌, ◌*◌, ◌<◌, ◌≤◌, ◌==◌, Bool, true, false, not, cond, nat_lt, List, [], ◌∷◌, ◌++◌, codes, find, length, Option, Some, None, IfSome, refl, sym, ap, subst, ◌∙◌, eqb-true, eq-eqb, arith}
 use Rattle.std.specs.Prelude.{decimal}
 use Rattle.std.specs.BTreeMap.{is_at}
 use Rattle.std.specs.Cmp.Lexicographic.{slice_cmp}
-use Rattle.std.specs.List.{AllByRecursion, list_any}
+use Rattle.std.specs.List.{AllByRecursion}
 use Rattle.std.specs.Map.{remove_entry}
 use Rattle.std.specs.Ordering.{nat_cmp}
 use Rattle.std.specs.Set.{remove_key}
 use Rattle.std.proofs.lemmas.Bool.Decides.{nat_tests}
 use Rattle.kinds.specs.Limits.{shipped}
 use Rattle.kinds.specs.Queue.{has_number, has_run, insert_item, number_of, without_number}
-use Rattle.kinds.specs.Seen.{has_id, insert_seen, is_remembered, note_seen, without_id}
-use Rattle.kinds.specs.declared.cell.Cell.{Cell}
+use Rattle.kinds.specs.Seen.{has_id, insert_seen, is_remembered, without_id}
 use Rattle.kinds.specs.declared.cell.CellLimit.{CellLimit}
 use Rattle.kinds.specs.declared.event.Event.{Event}
 use Rattle.kinds.specs.declared.seen.SeenEntry.{SeenEntry}
@@ -24,7 +23,7 @@ use Rattle.run_model.specs.Ends.{end_run}
 use Rattle.run_model.specs.Events.{add_event}
 use Rattle.run_model.specs.Machine.{count_input}
 use Rattle.run_model.specs.Making.{is_item_of, new_item, queue_new, step_target, unless}
-use Rattle.run_model.specs.Recording.{change_run, most_bytes, record_in, record_result, result_for, without_item}
+use Rattle.run_model.specs.Recording.{most_bytes, record_in, record_result, result_for, without_item}
 use Rattle.run_model.specs.Replies.{close}
 use Rattle.run_model.specs.Requests.{remember}
 use Rattle.run_model.specs.Settle.{called, issue, issued, item_at, started_at}
@@ -403,7 +402,7 @@ credit-recorded x name result new =
 pub not-of : (m : ℕ) (name : List ℕ) (i : Item) → has_run m i ≡ false → is_item_of m name i ≡ false
 not-of m name i h = rw h refl
 
-keeps-number : (m : ℕ) (f : Run → Run) → ((y : Run) → (f y).number ≡ y.number) → (y : Run)
+pub keeps-number : (m : ℕ) (f : Run → Run) → ((y : Run) → (f y).number ≡ y.number) → (y : Run)
     → (cond (m == y.number) (f y) y).number ≡ y.number
 keeps-number m f same y =
     elim (m == y.number) as (λ b. (cond b (f y) y).number ≡ y.number) [ true ↦ same y | false ↦ refl ]
@@ -418,9 +417,9 @@ stands-recorded n e r c x name result s found new short own h =
     let changes : Run → Run = λ y. cond (is_run x.number y) (f y) y in
     let same : (y : Run) → (changes y).number ≡ y.number = keeps-number x.number f (λ y. refl) in
     let left : without_item x.number name s.items ≡ s.items =
-        none-left (is_item_of x.number name) s.items
-        (all-weaker (λ i. has_run x.number i ≡ false) (λ i. is_item_of x.number name i ≡ false) s.items
-        (not-of x.number name) (no-items n e r (c + 1) x.number s h)) in
+    none-left (is_item_of x.number name) s.items
+    (all-weaker (λ i. has_run x.number i ≡ false) (λ i. is_item_of x.number name i ≡ false) s.items
+    (not-of x.number name) (no-items n e r (c + 1) x.number s h)) in
     record {
       constant =
           subst (λ z. record_result x.number name result z ≡ plain (record_result x.number name result z))
@@ -482,10 +481,10 @@ pub stands-issued : (n e r c number : ℕ) (i : Item) (s : State) → item_at nu
 stands-issued n e r c number i s there h =
     let is_number : number ≡ i.number = eqb-true number i.number (found-passes (has_number number) s.items i there) in
     let found : find (has_number i.number) s.items ≡ Some i =
-        subst (λ m. find (has_number m) s.items ≡ Some i) is_number there in
+    subst (λ m. find (has_number m) s.items ≡ Some i) is_number there in
     let own : IsItem s.moment i =
-        subst (λ o. IfSome o (IsItem s.moment)) there
-        (all-found (IsItem s.moment) (has_number number) s.items h.each_item) in
+    subst (λ o. IfSome o (IsItem s.moment)) there
+    (all-found (IsItem s.moment) (has_number number) s.items h.each_item) in
     let once = h.item_numbers.once i.number in
     let call : Issue = issued i s in
     let changes : Run → Run = λ y. cond (is_run i.run y) (called i.target y) y in

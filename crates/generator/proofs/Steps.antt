@@ -1,5 +1,5 @@
 -- A step of the machine on such a state: nothing is due before it, then its input acts, and calls are made.
-use Rattle.std.proofs.Common.{◌≡◌, ℕ, zero, suc, ◌+◌, ◌<◌, ◌≤◌, Bool, true, false, cond, List, [], ◌∷◌, ◌++◌, map, length, min, max, nat_le, Option, Some, None, IfSome, refl, sym, ap, subst, ◌∙◌, arith}
+use Rattle.std.proofs.Common.{◌≡◌, ℕ, zero, suc, ◌+◌, ◌<◌, ◌≤◌, true, false, cond, List, [], ◌∷◌, map, length, min, max, nat_le, Option, Some, None, IfSome, refl, sym, ap, subst, ◌∙◌, arith}
 use Rattle.std.proofs.lemmas.Bool.Decides.{nat_tests}
 use Rattle.std.specs.List.{AllByRecursion}
 use Rattle.kinds.specs.Inputs.{reading}
@@ -7,7 +7,7 @@ use Rattle.kinds.specs.Moments.{last_moment}
 use Rattle.kinds.specs.declared.input.Input.{Input}
 use Rattle.kinds.specs.declared.store.Item.{Item}
 use Rattle.lists.proofs.Elements.{all-weaker}
-use Rattle.run_model.specs.Advance.{Advanced, Next, Timed, call_limit, advance, arrived, comes_before, due_by, due_of, earlier, fire_by, fired, least, most, timed, with_due, within}
+use Rattle.run_model.specs.Advance.{Advanced, Next, call_limit, advance, arrived, comes_before, due_by, earlier, fire_by, fired, least, most, timed, within}
 use Rattle.run_model.specs.Machine.{act, acted_after, count_input, step}
 use Rattle.run_model.specs.Settle.{Settled, issue_found, issue_of, item_at, next_issued, settle, settle_by}
 use Rattle.run_model.specs.State.{State, Run, Issue, at_moment, live_run, moment_at, tidied}
@@ -127,12 +127,12 @@ rests-after n e r c f q d input s early h acts =
     let t : ℕ = moment_at (reading input) s in
     let soon : t ≤ 1000000 = in-time s.moment (reading input) early h.stands.dated in
     let late : AllByRecursion (λ (i : Issue). t < i.due) s.issues =
-        all-weaker IsIssue (λ (i : Issue). t < i.due) s.issues (λ i k. omega (arith, k.due, soon))
-        h.stands.each_issue in
+    all-weaker IsIssue (λ (i : Issue). t < i.due) s.issues (λ i k. omega (arith, k.due, soon))
+    h.stands.each_issue in
     let now = stands-later n e r c t s (goes-on s.moment (min (reading input) last_moment)) soon h.stands in
     let next =
-        step-state s input (arrived_at input s)
-        (only-later t (count_input s) (ap count_input h.stands.constant) late) in
+    step-state s input (arrived_at input s)
+    (only-later t (count_input s) (ap count_input h.stands.constant) late) in
     record {
       stands =
           subst (λ z. Stands (n + 1) f q d None z) (sym next)

@@ -1,5 +1,5 @@
 -- Sums over lists, and counts as sums: what comes and goes.
-use Rattle.std.proofs.Common.{◌≡◌, ℕ, ◌+◌, ◌<◌, ◌≤◌, ◌==◌, Bool, true, false, not, cond, ◌||◌, List, [], ◌∷◌, ◌++◌, filter, find, length, map, Option, Some, None, refl, sym, ap, ap₂, subst, ◌∙◌, eq-eqb, eqb-true, arith}
+use Rattle.std.proofs.Common.{◌≡◌, ℕ, ◌+◌, ◌<◌, ◌≤◌, ◌==◌, Bool, true, false, not, cond, ◌||◌, List, [], ◌∷◌, ◌++◌, filter, find, map, Some, refl, sym, ap, ap₂, subst, eqb-true, arith}
 use Rattle.std.specs.List.{AllByRecursion, list_any}
 use Rattle.lists.proofs.Elements.{all-filter, all-last, all-weaker}
 
@@ -48,10 +48,10 @@ pub count-none : {X : Type 0} (p : X → Bool) (xs : List X) → count p xs ≡ 
 count-none p [] h = tt
 count-none p (x ∷ xs) h =
     let two : (p x ≡ false) × (count p xs ≡ 0) =
-        (elim (p x) as (λ b. one_if b + count p xs ≡ 0 → (b ≡ false) × (count p xs ≡ 0)) [
-          | true ↦ λ e. absurd (omega (arith, e))
-          | false ↦ λ e. (refl, omega (arith, e))
-        ]) h in
+    (elim (p x) as (λ b. one_if b + count p xs ≡ 0 → (b ≡ false) × (count p xs ≡ 0)) [
+      | true ↦ λ e. absurd (omega (arith, e))
+      | false ↦ λ e. (refl, omega (arith, e))
+    ]) h in
     (two.0, count-none p xs two.1)
 
 pub none-count : {X : Type 0} (p : X → Bool) (xs : List X) → AllByRecursion (λ x. p x ≡ false) xs
@@ -148,9 +148,9 @@ all-changed-one P p f (y ∷ ys) x e h own others =
     (elim (p y) as (λ b. cond b (Some y) (find p ys) ≡ Some x → one_if b + count p ys ≤ 1
     → AllByRecursion P (cond b (f y) y ∷ map (λ z. cond (p z) (f z) z) ys)) [
       | true ↦ λ k l. (
-          subst (λ z. P (f z)) (sym (same-of y x k)) own,
-          subst (AllByRecursion P) (sym (none-changes p f ys (count-none p ys (omega (arith, l))))) others.1,
-        )
+        subst (λ z. P (f z)) (sym (same-of y x k)) own,
+        subst (AllByRecursion P) (sym (none-changes p f ys (count-none p ys (omega (arith, l))))) others.1,
+      )
       | false ↦ λ k l. (others.0, all-changed-one P p f ys x k (omega (arith, l)) own others.1)
     ]) e h
 
@@ -201,8 +201,8 @@ once-beside number given n xs l h k =
     (elim (k == n) as (λ b. (k == n) ≡ b → count (λ x. k == number x) xs + one_if b ≤ 1) [
       | true ↦ λ e.
           let none : count (λ x. k == number x) xs ≡ 0 =
-              subst (λ m. count (λ x. m == number x) xs ≡ 0) (sym (eqb-true k n e))
-              (none-count (λ x. n == number x) xs (new-count number given n xs l h.low)) in
+          subst (λ m. count (λ x. m == number x) xs ≡ 0) (sym (eqb-true k n e))
+          (none-count (λ x. n == number x) xs (new-count number given n xs l h.low)) in
           omega (arith, none)
       | false ↦ λ e. omega (arith, most)
     ]) refl
@@ -217,6 +217,7 @@ numbered-last number given n xs x l e h = record {
       let one : one_if (k == number x) ≡ one_if (k == n) = ap (λ m. one_if (k == m)) e in
       omega (arith, beside, added, one);
 }
+
 all-same : {X : Type 0} (number : X → ℕ) (given : ℕ) (f : X → X) (xs : List X)
     → ((x : X) → number (f x) ≡ number x) → AllByRecursion (λ x. number x ≤ given) xs
     → AllByRecursion (λ x. number x ≤ given) (map f xs)

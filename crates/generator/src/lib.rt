@@ -1,3 +1,7 @@
 //! The inputs that the generator of `replay` makes, and what they make of the documented machine. Stands on `run_model`;
 //! has laws alone.
 #![tactic(auto)]
+
+mod laws;
+
+pub use laws::{histories_are_accepted, histories_end};
