@@ -201,15 +201,28 @@ pub record Replying (e r count : ℕ) (s : State) : Type 0 where
   pub goes : Goes e replies left s
   pub given : (s.issues ≡ []) ⊎ (r + count ≤ replies)
 
-none-to-reply : (at k : ℕ) (s : State) → s.issues ≡ [] → after_reply at k s ≡ s
+none-to-reply : (at k : ℕ) (s : State) → first_open s.issues ≡ None → after_reply at k s ≡ s
 none-to-reply at k s e =
-    ap (λ is. after_any (option_map (λ o. reply_input at o.call (has_results s o) k) (first_open is)) s) e
+    ap (λ o. after_any (option_map (λ o. reply_input at o.call (has_results s o) k) o) s) e
 
-stays-closed : (at k count : ℕ) (s : State) → s.issues ≡ [] → after_replies at k count s ≡ s
+pub stays-closed : (at k count : ℕ) (s : State) → first_open s.issues ≡ None → after_replies at k count s ≡ s
 unfolding after_replies
 stays-closed at k zero s e = refl
 stays-closed at k (suc count) s e =
     ap (after_replies at k count) (none-to-reply at k s e) ∙ stays-closed at k count s e
+
+pub one-by-one : (at k first more : ℕ) (s : State)
+    → after_replies at k (first + more) s ≡ after_replies at k more (after_replies at k first s)
+unfolding after_replies
+one-by-one at k zero more s = ap (λ count. after_replies at k count s) (from-none more)
+  where
+    from-none : (more : ℕ) → 0 + more ≡ more
+    from-none more = omega arith
+one-by-one at k (suc first) more s =
+    ap (λ count. after_replies at k count s) (next first more) ∙ one-by-one at k first more (after_reply at k s)
+  where
+    next : (first more : ℕ) → suc first + more ≡ suc (first + more)
+    next first more = omega arith
 
 more-given : (e r count : ℕ) (s : State) → Replying e (r + 1) count s → Replying e r (suc count) s
 more-given e r count s h = record {
@@ -236,7 +249,7 @@ replied-on e r c k (suc count) s some few h =
     let t : State = after_reply (10 * k) k s in
     let next = goes-reply e r c k s some few h in
     elim next.given as (λ _. Replying e r (suc count) (after_replies (10 * k) k count t)) [
-      | inl none ↦ subst (λ x. Replying e r (suc count) x) (sym (stays-closed (10 * k) k (suc count) s none.0))
+      | inl none ↦ subst (λ x. Replying e r (suc count) x) (sym (stays-closed (10 * k) k (suc count) s (ap first_open none.0)))
           (record { replies = r; left = c; goes = h; given = inl none.0 })
       | inr more ↦ more-given e r count (after_replies (10 * k) k count t)
           (replied-on e (r + 1) next.left k count t some few

@@ -4,4 +4,4 @@
 
 mod laws;
 
-pub use laws::{histories_are_accepted, histories_end};
+pub use laws::{histories_are_accepted, histories_end, replies_follow};
