@@ -56,10 +56,13 @@ none-seen id moment seen h = ap (option_map (λ (i : SeenEntry). i.number)) (non
 
 byte-short : (b : ℕ) → length (escaped_byte b) ≤ 6
 byte-short b =
+    let pair : List ℕ = 0x5c ∷ b ∷ [] in
     let control : List ℕ = 0x5c ∷ 0x75 ∷ 0x30 ∷ 0x30 ∷ hex_digit (b / 16) ∷ hex_digit (b % 16) ∷ [] in
-    elim ((b == 0x22) || (b == 0x5c)) as (λ t. length (cond t (0x5c ∷ b ∷ []) (cond (nat_lt b 0x20) control (b ∷ []))) ≤ 6) [
+    elim ((b == 0x22) || (b == 0x5c))
+    as (λ t. length (cond t pair (cond (nat_lt b 0x20) control (b ∷ []))) ≤ 6) [
       | true ↦ omega arith
-      | false ↦ elim (nat_lt b 0x20) as (λ t. length (cond t control (b ∷ [])) ≤ 6) [ true ↦ omega arith | false ↦ omega arith ]
+      | false ↦ elim (nat_lt b 0x20) as (λ t. length (cond t control (b ∷ [])) ≤ 6)
+          [ true ↦ omega arith | false ↦ omega arith ]
     ]
 
 escaped-short : (w : List ℕ) → length (escaped w) ≤ 6 * length w

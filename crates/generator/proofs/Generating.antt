@@ -94,6 +94,10 @@ goes-replied e r c k o is s some few first h =
     same-count : (e r : ℕ) → e + r + 1 + 1 ≡ e + (r + 1) + 1
     same-count e r = omega arith
 
+-- the reply to the first of these open calls
+abbrev reply_to : ℕ → ℕ → State → List Issue → Option Input
+reply_to at k s calls = option_map (λ o. reply_input at o.call (has_results s o) k) (first_open calls)
+
 -- what a reply leads to, where a call is open: one more was given
 pub record Replied (e r c : ℕ) (calls : List Issue) (s : State) : Type 0 where
   pub replies : ℕ
@@ -102,7 +106,7 @@ pub record Replied (e r c : ℕ) (calls : List Issue) (s : State) : Type 0 where
   pub given : ((calls ≡ []) × (replies ≡ r)) ⊎ (replies ≡ r + 1)
 
 replied-by : (e r c k : ℕ) (calls : List Issue) (s : State) → s.issues ≡ calls → 0 < k → k ≤ 100000 → Goes e r c s
-    → Replied e r c calls (after_any (option_map (λ o. reply_input (10 * k) o.call (has_results s o) k) (first_open calls)) s)
+    → Replied e r c calls (after_any (reply_to (10 * k) k s calls) s)
 replied-by e r c k [] s first some few h = record {
   replies = r;
   left = c;
@@ -125,7 +129,7 @@ goes-reply e r c k s some few h = replied-by e r c k s.issues s refl some few h
 
 -- it is accepted
 pub accepted-reply : (e r c k : ℕ) (calls : List Issue) (s : State) → s.issues ≡ calls → e ≤ 100000 → Goes e r c s
-    → AcceptsAny s (option_map (λ o. reply_input (10 * k) o.call (has_results s o) k) (first_open calls))
+    → AcceptsAny s (reply_to (10 * k) k s calls)
 accepted-reply e r c k [] s first few h = tt
 accepted-reply e r c k (o ∷ is) s first few h =
     accepts-reply (e + r + 1) e r c (10 * k) k (has_results s o) o is s
@@ -203,7 +207,7 @@ pub record Replying (e r count : ℕ) (s : State) : Type 0 where
 
 none-to-reply : (at k : ℕ) (s : State) → first_open s.issues ≡ None → after_reply at k s ≡ s
 none-to-reply at k s e =
-    ap (λ o. after_any (option_map (λ o. reply_input at o.call (has_results s o) k) o) s) e
+    ap (λ call. after_any (option_map (λ o. reply_input at o.call (has_results s o) k) call) s) e
 
 pub stays-closed : (at k count : ℕ) (s : State) → first_open s.issues ≡ None → after_replies at k count s ≡ s
 unfolding after_replies
@@ -249,7 +253,8 @@ replied-on e r c k (suc count) s some few h =
     let t : State = after_reply (10 * k) k s in
     let next = goes-reply e r c k s some few h in
     elim next.given as (λ _. Replying e r (suc count) (after_replies (10 * k) k count t)) [
-      | inl none ↦ subst (λ x. Replying e r (suc count) x) (sym (stays-closed (10 * k) k (suc count) s (ap first_open none.0)))
+      | inl none ↦ subst (λ x. Replying e r (suc count) x)
+          (sym (stays-closed (10 * k) k (suc count) s (ap first_open none.0)))
           (record { replies = r; left = c; goes = h; given = inl none.0 })
       | inr more ↦ more-given e r count (after_replies (10 * k) k count t)
           (replied-on e (r + 1) next.left k count t some few
@@ -365,14 +370,17 @@ nothing-open at k count = stays-closed at k count registered refl
 pub replying : (n count : ℕ) → 0 < n → n ≤ 100000
     → (r : ℕ) × Replying n r count (after_replies (10 * n) n count (after_events n n registered))
 replying n count some few =
-    let events = reached-events n n few in
-    (events.replies, replied-on n events.replies events.left n count (after_events n n registered) some few events.goes)
+    let events = reached-events n n few in (
+      events.replies,
+      replied-on n events.replies events.left n count (after_events n n registered) some few events.goes,
+    )
 
 pub accepted-replies : (n count : ℕ) → n ≤ 100000
     → AcceptsReply n (after_replies (10 * n) n count (after_events n n registered))
 unfolding after_events
 accepted-replies zero count few =
-    subst (AcceptsReply 0) (sym (nothing-open 0 0 count)) (accepted-reply 0 0 0 0 registered.issues registered refl few begins)
+    subst (AcceptsReply 0) (sym (nothing-open 0 0 count))
+    (accepted-reply 0 0 0 0 registered.issues registered refl few begins)
 accepted-replies (suc n) count few =
     let next = (replying (suc n) count (omega arith) few).1 in
     let s : State = after_replies (10 * suc n) (suc n) count (after_events (suc n) (suc n) registered) in

@@ -14,11 +14,12 @@ pub fn histories_are_accepted()
 pub fn replies_follow()
     ensures more { (at i first more : ℕ) (s : State) →
         after_replies at i (first + more) s ≡ after_replies at i more (after_replies at i first s) }
-    ensures none { (at i count : ℕ) (s : State) → first_open s.issues ≡ None → after_replies at i count s ≡ s }
+    ensures none { (at i count : ℕ) (s : State) → first_open s.issues ≡ None →
+        after_replies at i count s ≡ s }
 {}
 
-/// And two replies to each run are enough: in the end no run is left and no call is open, and there were three inputs and
-/// two calls to each event, and one registration.
+/// And two replies to each run are enough: in the end no run is left and no call is open, and there were three inputs
+/// and two calls to each event, and one registration.
 pub fn histories_end()
     ensures { (n : ℕ) → n ≤ 100000 → HasEnded n (generated n) }
 {}
