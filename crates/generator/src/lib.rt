@@ -1,5 +1,5 @@
-//! The inputs that the generator of `replay` makes, and what they make of the documented machine. Stands on `run_model`;
-//! has laws alone.
+//! The inputs that the generator of `replay` makes, and what they make of the documented machine. Stands on
+//! `run_model`, and has laws alone.
 #![tactic(auto)]
 
 mod laws;
