@@ -1,11 +1,9 @@
 -- The inputs that the generator makes: a registration, events whose data is drawn, and replies.
-use Rattle.std.specs.Prelude.{ℕ, zero, suc, ◌+◌, ◌*◌, ◌%◌, ◌^◌, Bool, true, false, List, [], ◌∷◌, ◌++◌, Option, Some, None, codes, decimal}
+use Rattle.std.specs.Prelude.{ℕ, zero, suc, ◌+◌, ◌*◌, ◌%◌, ◌^◌, Bool, true, false, List, [], ◌∷◌, ◌++◌, Some, None, codes, decimal}
 use Rattle.kinds.specs.declared.event.EventIn.{EventIn}
-use Rattle.kinds.specs.declared.function.App.{App}
 use Rattle.kinds.specs.declared.function.Function.{Function}
 use Rattle.kinds.specs.declared.function.Limit.{Limit}
 use Rattle.kinds.specs.declared.function.Scope.TheVariants.{Own}
-use Rattle.kinds.specs.declared.function.Trigger.{Trigger}
 use Rattle.kinds.specs.declared.input.Input.{Input}
 use Rattle.kinds.specs.declared.input.Input.TheVariants.{Events, Register, Reply}
 use Rattle.kinds.specs.declared.reply.ReplyIn.{ReplyIn}

@@ -1,25 +1,13 @@
 -- What the generator's inputs make of the documented machine. Each event is followed by one reply, and at the end
 -- calls are replied to until none is open: two a run.
-use Rattle.std.specs.Prelude.{ℕ, zero, suc, ◌+◌, ◌*◌, Bool, false, List, [], ◌∷◌, length, nat_lt, Option, Some, None}
+use Rattle.std.specs.Prelude.{ℕ, zero, suc, ◌*◌, Option, Some, None}
 use Rattle.std.specs.Option.{option_map}
 use Rattle.kinds.specs.Limits.{shipped}
 use Rattle.kinds.specs.declared.input.Input.{Input}
 use Rattle.run_model.specs.Machine as machine
-use Rattle.run_model.specs.State.{State, Run, Issue, empty, live_run}
+pub use Rattle.run_model.specs.Next.{first_open, has_results, is_begun}
+use Rattle.run_model.specs.State.{State, Issue, empty}
 use Rattle.generator.specs.Inputs.{drawn, event_input, registration, reply_input, user_of}
-
--- the first of the open calls, which is the least: they are in order of number
-abbrev pub first_open : List Issue → Option Issue
-first_open [] = None
-first_open (i ∷ is) = Some i
-
-abbrev pub is_begun : Option Run → Bool
-is_begun None = false
-is_begun (Some r) = nat_lt 0 (length r.steps.recorded)
-
--- steps of the call's run are recorded
-abbrev pub has_results : State → Issue → Bool
-has_results s i = is_begun (live_run i.item.run s)
 
 -- the reply to the first open call, where one is open, at a moment and with the number of the last event
 abbrev pub next_reply : ℕ → ℕ → State → Option Input

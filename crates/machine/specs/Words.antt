@@ -15,7 +15,7 @@ use Rattle.runs.specs.Runs.{names_event, run_number}
 use Rattle.step_ids.specs.Run.{run_text}
 use Rattle.run_model.specs.Ends.{cancel_run, complete_run, end_run, fail_run, failed_content, failed_name, first_text, function_id, is_of_failure, own_event, raise}
 use Rattle.run_model.specs.Making.{has_discovery, make_run, queue_new}
-use Rattle.run_model.specs.Next.{View}
+use Rattle.run_model.specs.Next.{View, has_results}
 use Rattle.run_model.specs.Recording as recording
 use Rattle.run_model.specs.Replies.{retries_of}
 use Rattle.run_model.specs.Requests.{Answering, repeats}
@@ -23,6 +23,7 @@ use Rattle.run_model.specs.Settle.{Settled, call_found, issue, issue_found, item
 use Rattle.run_model.specs.State.{State, Run, Issue, function_at, last_ended, live_run, text_of}
 use Rattle.machine.specs.declared.recording.Discovery.{Discovery}
 use Rattle.machine.specs.declared.recording.Discovery.TheVariants.{AtOnce, AtTheEnd}
+use Rattle.machine.specs.declared.views.OpenCall.{OpenCall}
 use Rattle.machine.specs.declared.views.RunView.{RunView}
 
 abbrev pub when_of : Discovery → recording.Discovery
@@ -147,6 +148,9 @@ view_of v = record {
   status = v.status;
   events = v.events.now;
 }
+
+abbrev pub open_call : State → Issue → OpenCall
+open_call s i = record { call = i.call; has_results = has_results s i }
 
 -- the runs of an event that can be viewed, in order of number
 abbrev pub runs_of : ℕ → State → List ℕ

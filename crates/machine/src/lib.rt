@@ -26,4 +26,4 @@ mod views;
 
 pub use machine::Machine;
 pub(crate) use parts::Parts;
-pub use views::RunView;
+pub use views::{OpenCall, RunView};

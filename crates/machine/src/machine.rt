@@ -83,6 +83,20 @@ impl Machine {
         self.parts.counts.events
     }
 
+    /// How many numbers were given to runs.
+    pub fn runs(&self) -> u64
+        ensures { result ≡ self.now.runs }
+    {
+        self.parts.counts.runs
+    }
+
+    /// How many calls were made.
+    pub fn calls(&self) -> u64
+        ensures { result ≡ self.now.calls }
+    {
+        self.parts.counts.calls
+    }
+
     /// The greatest count of names and inputs.
     pub fn greatest(&self) -> u64
         ensures { result ≡ greatest self.now }

@@ -3,10 +3,10 @@ ghost use Rattle.std.specs.Prelude.{◌≡◌, IfOk, OnOk};
 ghost use Rattle.std.specs.Option.{option_map};
 ghost use Rattle.kinds.specs.Queue.{sooner};
 ghost use Rattle.lists.specs.Entries.{add_numbers};
-ghost use Rattle.machine.specs.Words.{runs_of, view_of};
+ghost use Rattle.machine.specs.Words.{open_call, runs_of, view_of};
 ghost use Rattle.run_model.specs.Ends.{id_at};
-ghost use Rattle.run_model.specs.Next.{next_moment, run_view, status_of, step_result, view_ended};
-ghost use Rattle.run_model.specs.State.{function_at};
+ghost use Rattle.run_model.specs.Next.{first_open, is_begun, next_moment, run_view, status_of, step_result, view_ended};
+ghost use Rattle.run_model.specs.State.{function_at, live_run};
 
 use crate::Machine;
 use kinds::{Numbers, RunStatus, StepHash};
@@ -25,6 +25,14 @@ pub struct RunView<'a> {
     pub function: &'a [u8],
     pub status: RunStatus,
     pub events: &'a [u64],
+}
+
+/// A call that is open, as who replies to it needs it.
+#[derive(Clone, Copy, Debug, PartialEq, Eq)]
+pub struct OpenCall {
+    pub call: u64,
+    /// Whether steps of its run are recorded.
+    pub has_results: bool,
 }
 
 impl Machine {
@@ -74,6 +82,27 @@ impl Machine {
             status: ended.status,
             events: ended.events.as_slice(),
         })
+    }
+
+    /// The open call of least number. Takes no memory.
+    pub fn first_call(&self) -> Option<OpenCall>
+        ensures { result ≡ option_map (open_call self.now) (first_open self.now.issues) }
+    {
+        let issue = self.parts.admission.issues().next()?;
+        Some(OpenCall {
+            call: issue.call,
+            has_results: self.has_steps(issue.item.run),
+        })
+    }
+
+    // Whether the run hasn't ended and has recorded steps.
+    fn has_steps(&self, number: u64) -> bool
+        ensures { result ≡ is_begun (live_run number self.now) }
+    {
+        match self.parts.runs.live(number) {
+            Some(run) => !run.steps().is_empty(),
+            None => false,
+        }
     }
 
     /// The result of a recorded step of a run that has not ended. Takes no memory.

@@ -1,5 +1,5 @@
 -- When the machine has something to do next, and what can be looked at.
-use Rattle.std.specs.Prelude.{ℕ, ◌==◌, true, false, List, find, Option, Some, None}
+use Rattle.std.specs.Prelude.{ℕ, ◌==◌, Bool, true, false, List, [], ◌∷◌, find, length, nat_lt, Option, Some, None}
 use Rattle.std.specs.Option.{option_map, option_and_then}
 use Rattle.kinds.specs.Queue.{next_item, sooner}
 use Rattle.kinds.specs.RunSteps.{result_of}
@@ -7,7 +7,7 @@ use Rattle.kinds.specs.declared.store.RunStatus.{RunStatus}
 use Rattle.kinds.specs.declared.store.RunStatus.TheVariants.{Queued, Running}
 use Rattle.run_model.specs.Advance.{Next, least, timed}
 use Rattle.run_model.specs.Ends.{function_id}
-use Rattle.run_model.specs.State.{State, Run, EndedRun, issue_entries, last_ended, live_run}
+use Rattle.run_model.specs.State.{State, Run, Issue, EndedRun, issue_entries, last_ended, live_run}
 
 -- ## The next moment
 
@@ -65,3 +65,16 @@ run_view number s = view_with number s (live_run number s)
 -- the result of a step of a run that has not ended
 abbrev pub step_result : ℕ → List ℕ → State → Option (List ℕ)
 step_result run name s = option_and_then (λ (r : Run). result_of name r.steps) (live_run run s)
+
+-- the first of the open calls, which is the least: they are in order of number
+abbrev pub first_open : List Issue → Option Issue
+first_open [] = None
+first_open (i ∷ is) = Some i
+
+abbrev pub is_begun : Option Run → Bool
+is_begun None = false
+is_begun (Some r) = nat_lt 0 (length r.steps.recorded)
+
+-- steps of the call's run are recorded
+abbrev pub has_results : State → Issue → Bool
+has_results s i = is_begun (live_run i.item.run s)
