@@ -1,5 +1,6 @@
 mod AcceptedLemmas
 mod AcceptedRows
+mod HashingLemmas
 mod LineLemmas
 mod LogLemmas
 mod LogRun

@@ -1,5 +1,7 @@
 pub mod Accepted
 pub mod Ends
+pub mod Generator
+pub mod Hashing
 pub mod Line
 pub mod Log
 pub mod Pieces

@@ -7,6 +7,7 @@
 mod bytes;
 mod end;
 mod form;
+mod generated;
 mod laws;
 mod line;
 mod log;
@@ -19,5 +20,6 @@ mod script;
 
 pub use end::ReplayEnd;
 pub use form::Form;
+pub use generated::run_gen;
 pub use laws::accepted_lines_go_on;
 pub use script::{run_lines, run_script};

@@ -77,6 +77,13 @@ impl Progress {
         self.room
     }
 
+    /// The machine as it stands.
+    pub(crate) fn machine(&self) -> &Machine
+        ensures { result.now ≡ self.now.state }
+    {
+        &self.machine
+    }
+
     /// The number of the line that comes next, counted from 1.
     pub fn next_line(&self) -> u64
         ensures { result ≡ self.now.lines + 1 }
@@ -143,8 +150,8 @@ impl Progress {
         })
     }
 
-    // Takes an input, or says why it is refused.
-    fn take_input(self, input: Input) -> Result<Ran, LineFault>
+    /// Takes an input, or says why it is refused.
+    pub(crate) fn take_input(self, input: Input) -> Result<Ran, LineFault>
         requires ranges { IsInRange input }
         ensures run { RunsAs (on_input self input) result }
         ensures accepted { MatchResult result
