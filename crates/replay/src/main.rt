@@ -29,7 +29,7 @@ fn out_of_memory(out: &mut impl Sink) -> ExitCode {
 fn main(rt: HostRuntime) -> ExitCode {
     let alloc = rt.alloc();
     let mut out = HostSink::new(rt.stdout());
-    // A word that is no text is a word all the same, and replay takes none.
+    // A word that is no text is no word of replay, and neither is the empty one that stands for it.
     let no_text = [String::new(alloc)];
     let words = words(&rt);
     let words = match &words {

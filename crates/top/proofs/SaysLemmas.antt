@@ -1,12 +1,11 @@
 -- Texts that are said in parts, and the faults that are counted.
-use Rattle.std.proofs.Common.{◌≡◌, ℕ, ◌⊎◌, List, [], ◌++◌, Option, Some, Result, Ok, Err, inl, inr, ap, ◌∙◌, sym, subst, refl, codes, decimal}
+use Rattle.std.proofs.Common.{◌≡◌, ℕ, ◌⊎◌, List, [], ◌++◌, Result, Ok, Err, inl, inr, ap, ◌∙◌, sym, subst, refl, codes, decimal}
 use Rattle.rig.specs.Faults.{one_more}
 use Rattle.rig.specs.Written.{Outgoing, FailsWriting, PutsOut, after_write}
 use Rattle.rig.proofs.WrittenLemmas.{fails-more, write-fails, write-nothing, write-write}
 use Rattle.replay_core.specs.Script.{CountsWrites as CountsRun}
 use Rattle.replay_core.specs.declared.end.ReplayEnd.{ReplayEnd}
 use Rattle.replay_core.specs.declared.end.ReplayEnd.TheVariants as end
-use Rattle.replay_core.specs.declared.form.Form.{Form}
 use Rattle.top.specs.LastLine.{last_line, script_fault}
 use Rattle.top.specs.Outcome.{CountsOne, CountsWrites, Says, status_of}
 
@@ -38,10 +37,6 @@ fault-last line number result w0 w1 w2 w3 is h k last =
     puts-then (codes "script fault in line ") (decimal line ++ codes "\n") result w0 w1 w3 h
     (puts-then (decimal line) (codes "\n") result w1 w2 w3 (k ∙ ap (λ (t : List ℕ). after_write t w1) is) last)
 
--- the words have one form
-pub same-form : (a b : Form) (words : Option Form) → words ≡ Some a → words ≡ Some b → a ≡ b
-same-form a b words is also = cc
-
 -- ## Counts
 
 -- a text was said, whole or not
@@ -58,16 +53,16 @@ two-after old mid new is (inl h) = inl (inr (h ∙ is))
 two-after old mid new is (inr h) = inr (h ∙ ap one_more is)
 
 -- what a run counts whose last line says nothing but where it says one
-pub run-counts : (e : ReplayEnd) (old mid new : Outgoing) → CountsRun e old.faults mid.faults → Says (last_line e) mid new → (e ≡ end.Done → new ≡ mid) → (e ≡ end.WriteFault → new ≡ mid) → CountsWrites (status_of e) old.faults new.faults
+pub run-counts : (e : ReplayEnd) (old : ℕ) (mid new : Outgoing) → CountsRun e old mid.faults → Says (last_line e) mid new → (e ≡ end.Done → new ≡ mid) → (e ≡ end.WriteFault → new ≡ mid) → CountsWrites (status_of e) old new.faults
 run-counts end.Done old mid new (inl h) says done failed = ap (λ (o : Outgoing). o.faults) (done refl) ∙ h
 run-counts end.Done old mid new (inr (is, h)) says done failed = cc
-run-counts (end.Script line) old mid new (inl h) says done failed = one-after old.faults mid.faults new.faults h (says-counts _ mid new says)
+run-counts (end.Script line) old mid new (inl h) says done failed = one-after old mid.faults new.faults h (says-counts _ mid new says)
 run-counts (end.Script line) old mid new (inr (is, h)) says done failed = cc
-run-counts end.ReadFault old mid new (inl h) says done failed = one-after old.faults mid.faults new.faults h (says-counts _ mid new says)
+run-counts end.ReadFault old mid new (inl h) says done failed = one-after old mid.faults new.faults h (says-counts _ mid new says)
 run-counts end.ReadFault old mid new (inr (is, h)) says done failed = cc
 run-counts end.WriteFault old mid new (inl h) says done failed = ap (λ (o : Outgoing). o.faults) (failed refl) ∙ h
 run-counts end.WriteFault old mid new (inr (is, h)) says done failed = cc
-run-counts end.NumbersSpent old mid new (inl h) says done failed = one-after old.faults mid.faults new.faults h (says-counts _ mid new says)
+run-counts end.NumbersSpent old mid new (inl h) says done failed = one-after old mid.faults new.faults h (says-counts _ mid new says)
 run-counts end.NumbersSpent old mid new (inr (is, h)) says done failed = cc
-run-counts end.Memory old mid new (inl h) says done failed = inl (one-after old.faults mid.faults new.faults h (says-counts _ mid new says))
-run-counts end.Memory old mid new (inr (is, h)) says done failed = two-after old.faults mid.faults new.faults h (says-counts _ mid new says)
+run-counts end.Memory old mid new (inl h) says done failed = inl (one-after old mid.faults new.faults h (says-counts _ mid new says))
+run-counts end.Memory old mid new (inr (is, h)) says done failed = two-after old mid.faults new.faults h (says-counts _ mid new says)

@@ -4,7 +4,7 @@ use Rattle.replay_core.specs.declared.end.ReplayEnd.{ReplayEnd}
 use Rattle.replay_core.specs.declared.end.ReplayEnd.TheVariants.{Done, Script, ReadFault, WriteFault, NumbersSpent, Memory}
 
 unfoldable pub usage_line : List ℕ
-usage_line = codes "usage: replay [--brief]\n"
+usage_line = codes "usage: replay [--brief] [--gen N]\n"
 
 unfoldable pub script_fault : ℕ → List ℕ
 script_fault line = codes "script fault in line " ++ (decimal line ++ codes "\n")

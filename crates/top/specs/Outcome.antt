@@ -1,5 +1,6 @@
 -- What a run of a program has written when it ends.
 use Rattle.std.specs.Prelude.{ℕ, ◌≡◌, ◌⊎◌, List, Option}
+use Rattle.replay_core.specs.Generator.{Generates}
 use Rattle.replay_core.specs.Script.{Replays}
 use Rattle.replay_core.specs.declared.end.ReplayEnd.{ReplayEnd}
 use Rattle.replay_core.specs.declared.end.ReplayEnd.TheVariants as end
@@ -7,7 +8,7 @@ use Rattle.replay_core.specs.declared.form.Form.{Form}
 use Rattle.rig.specs.Faults.{one_more}
 use Rattle.rig.specs.Flow.{Flow}
 use Rattle.rig.specs.Written.{Outgoing, FailsWriting, after_write}
-use Rattle.top.specs.LastLine.{last_line}
+use Rattle.top.specs.LastLine.{last_line, usage_line}
 use Rattle.top.specs.declared.status.Status.{Status}
 use Rattle.top.specs.declared.status.Status.TheVariants.{Done, Usage, Memory, Script, ReadFault, WriteFault, NumbersSpent}
 
@@ -41,6 +42,20 @@ pub record IsReplay (form : Form) (flow : Flow) (new_flow : Option Flow) (old ne
   pub mid : Outgoing
   pub lines : Replays form old mid flow new_flow end
   pub last : Says (last_line end) mid new
+
+-- The line of generated inputs was written, as far as they ran, and then the last line.
+pub record IsGenerated (count : ℕ) (old new : Outgoing) (answer : Status) : Type 0 where
+  pub end : ReplayEnd
+  pub status : answer ≡ status_of end
+  pub mid : Outgoing
+  pub line : Generates count old mid end
+  pub last : Says (last_line end) mid new
+
+-- The words aren't the program's, and the usage line was written, or memory ran out before that was seen.
+abbrev pub IsRefused : Status → Outgoing → Outgoing → Type 0
+IsRefused Usage old new = Says usage_line old new
+IsRefused Memory old new = Says (last_line end.Memory) old new
+IsRefused _ old new = ⊥
 
 -- ## Counts of faults, by the status
 

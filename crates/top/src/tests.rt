@@ -170,7 +170,10 @@ fn words_are_refused(rt: HostRuntime) -> Result<(), Fail> {
     );
     assert_eq!(rt; status, Status::Usage);
     assert_eq!(rt; status.number(), 2);
-    assert_eq!(rt; out.written(), b"usage: replay [--brief]\n".as_slice());
+    assert_eq!(rt;
+        out.written(),
+        b"usage: replay [--brief] [--gen N]\n".as_slice()
+    );
     assert_eq!(rt; input.read_count(), 0);
     Ok(())
 }
