@@ -1,5 +1,6 @@
 mod AcceptedLemmas
 mod AcceptedRows
+mod GeneratedLine
 mod HashingLemmas
 mod LineLemmas
 mod LogLemmas

@@ -1,6 +1,7 @@
 pub mod Accepted
 pub mod Ends
 pub mod Generator
+pub mod GeneratedLine
 pub mod Hashing
 pub mod Line
 pub mod Log
