@@ -1,5 +1,5 @@
 -- A list of runs after a note on a name, over the answer of the call.
-use Rattle.std.proofs.Common.{◌≡◌, ℕ, Bool, cond, List, map, Option, Some, None, refl, sym, ap, ◌∙◌, subst}
+use Rattle.std.proofs.Common.{◌≡◌, ℕ, Bool, cond, List, sym, ap, subst}
 use Rattle.std.specs.Map.{values_of}
 use Rattle.std.specs.Prelude.{IfOk, OnErr, Result, Ok, Err}
 use Rattle.runs.specs.Changes.{changed, if_new}

@@ -1,26 +1,23 @@
 -- Runs under their numbers with what is kept beside them: one that comes, goes or changes.
-use Rattle.std.proofs.Common.{◌≡◌, ℕ, ◌+◌, ◌-◌, ◌≤◌, ◌<◌, ◌==◌, nat_lt, nat_le, Bool, true, false, cond, not, ◌&&◌, ◌||◌, List, [], ◌∷◌, ◌++◌, map, filter, find, length, Option, Some, None, is_some, refl, sym, ap, ◌∙◌, arith, subst, eqb-true}
-use mathlib.Core.Path.{fun_ext}
+use Rattle.std.proofs.Common.{◌≡◌, ℕ, ◌+◌, ◌-◌, ◌≤◌, ◌<◌, ◌==◌, nat_lt, nat_le, Bool, true, false, cond, not, ◌||◌, List, [], ◌∷◌, ◌++◌, map, filter, find, length, Option, Some, None, is_some, refl, sym, ap, ◌∙◌, arith, subst, eqb-true}
 use Rattle.std.specs.BTreeMap.{insert_entry, is_at}
 use Rattle.std.specs.List.{list_any, AllByRecursion}
 use Rattle.std.specs.List.Sorted.{IsStrictlySortedBy}
 use Rattle.std.specs.Bool.{OnTrue, OnFalse}
 use Rattle.std.specs.Option.{SomeIff}
-use Rattle.std.specs.Map.{keys_of, values_of, lookup, remove_entry, set_value}
+use Rattle.std.specs.Map.{keys_of, values_of, remove_entry}
 use Rattle.std.specs.Ordering.{nat_cmp, is_lt}
-use Rattle.std.specs.declared.cmp.Ordering.{Ordering}
-use Rattle.std.specs.declared.cmp.Ordering.TheVariants.{Less, Equal, Greater}
+use Rattle.std.specs.declared.cmp.Ordering.TheVariants.{Less}
 use Rattle.std.proofs.lemmas.Bool.Decides.{nat_tests}
 use Rattle.std.proofs.lemmas.Map.Keys.{sorted_head, sorted_tail}
 use Rattle.std.proofs.lemmas.Option.{same_Some}
-use Rattle.kinds.specs.RunSteps.{RunSteps, Noting, adds, known, full, is_pending, is_planned, is_recorded, keep_step, names, most_names, record_step}
+use Rattle.kinds.specs.RunSteps.{RunSteps, adds, known, full, is_pending, is_planned, is_recorded, keep_step, names, most_names, record_step}
 use Rattle.kinds.specs.declared.store.StepEntry.{StepEntry}
-use Rattle.lists.proofs.Elements.{all-weaker}
 use Rattle.lists.proofs.Keyed.{cond_none, filter_none, find_without, keyed, keys_of-keyed}
 use Rattle.ordered.proofs.Apart.{found}
 use Rattle.lists.proofs.Stored.{IsStored, InsertsByNumber, stored_empty, stored_from, numbered_put, numbered_left, numbered_found}
 use Rattle.lists.specs.Entries.{has, without, insert_by, AreApart, pair_cmp}
-use Rattle.runs.specs.Changes.{changed, if_new, is_pending_in, keep_in, naming_in, naming_of, record_in, result_for, with_result}
+use Rattle.runs.specs.Changes.{changed, if_new, keep_in, naming_in, naming_of, record_in, result_for, with_result}
 use Rattle.runs.specs.Indexes.{IsIndexed, changed_at, held}
 use Rattle.runs.specs.Mentions.{mentions, numbers_of, IsJoined, IsParted, IsTold}
 use Rattle.runs.specs.Runs.{Run, AreDisjoint, with_run, bytes_of_results, bytes_of_steps, events_of, has_version, is_in, names_event, run_at, run_number, version_of}

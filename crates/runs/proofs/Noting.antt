@@ -1,15 +1,14 @@
 -- What the steps of a run answer to a note, with the steps put back.
-use Rattle.std.proofs.Common.{◌≡◌, Bool, true, false, cond, List, ℕ, refl, sym, ap, ◌∙◌, subst}
+use Rattle.std.proofs.Common.{◌≡◌, Bool, true, false, cond, List, ℕ, refl, sym, ◌∙◌, subst}
 use Rattle.kinds.specs.RunSteps.{RunSteps, Noting, adds, known, full, is_known, is_pending, is_planned, is_recorded, keep_step, names, most_names, note_pending, note_plan, pend_step, plan_step, record_step}
 use Rattle.kinds.specs.declared.store.Pending.{Pending}
 use Rattle.std.specs.Prelude.{◌||◌, nat_le, IfOk, OnErr, Result, Ok, Err}
 use Rattle.run_state.specs.Noted.{Notes, steps_of}
 use Rattle.run_state.specs.declared.active.Noted.{Noted}
 use Rattle.run_state.specs.declared.active.Noted.TheVariants as noted
-use Rattle.runs.specs.Changes.{IsNoted, if_new}
+use Rattle.runs.specs.Changes.{IsNoted}
 use Rattle.runs.specs.Noted.{Tells, IsStarved}
 use Rattle.runs.specs.declared.naming.Naming.{Naming}
-use Rattle.runs.specs.declared.naming.Naming.TheVariants as naming
 
 adds_same : (a b : RunSteps) → adds a ≡ adds b → b ≡ a
 adds_same a b h = cc

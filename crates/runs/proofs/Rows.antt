@@ -1,12 +1,12 @@
 -- Runs that have ended by place.
-use Rattle.std.proofs.Common.{◌≡◌, ℕ, ◌+◌, ◌<◌, ◌≤◌, ◌==◌, nat_le, Bool, true, false, cond, not, List, [], ◌∷◌, ◌++◌, map, filter, find, length, Option, Some, None, option_map, refl, sym, ap, ◌∙◌, arith, subst}
+use Rattle.std.proofs.Common.{◌≡◌, ℕ, ◌+◌, ◌<◌, ◌==◌, Bool, true, false, cond, not, List, [], ◌∷◌, ◌++◌, map, find, length, Option, Some, None, option_map, refl, sym, ap, ◌∙◌, arith, subst}
 use Rattle.std.specs.List.{AllByRecursion}
 use Rattle.std.specs.Option.{MatchOption}
-use Rattle.std.specs.Ordering.{nat_cmp, is_lt}
+use Rattle.std.specs.Ordering.{is_lt}
 use Rattle.std.proofs.lemmas.Bool.Decides.{nat_tests}
 use Rattle.lists.proofs.Elements.{all-filter, all-last, all-weaker}
 use Rattle.lists.proofs.Keyed.{filter_none}
-use Rattle.lists.specs.Entries.{has, without, insert_in, is_due, key_of, pair_cmp, AreApart, Leaves}
+use Rattle.lists.specs.Entries.{has, without, insert_in, is_due, pair_cmp, AreApart}
 use Rattle.runs.specs.Ended.{ended_number}
 use Rattle.runs.specs.declared.ended.EndedRun.{EndedRun}
 use Rattle.runs.specs.declared.row.Placed.{Placed}

@@ -1,6 +1,6 @@
 -- Pairs that tell what each of a list of entries mentions: entries that come, go and change, and what the
 -- pairs answer.
-use Rattle.std.proofs.Common.{◌≡◌, ℕ, ◌==◌, Bool, true, false, cond, not, ◌&&◌, ◌||◌, List, [], ◌∷◌, ◌++◌, map, filter, find, Option, Some, None, refl, sym, ap, ◌∙◌, arith, subst, eqb-true}
+use Rattle.std.proofs.Common.{◌≡◌, ℕ, ◌==◌, Bool, true, false, cond, not, ◌&&◌, ◌||◌, List, [], ◌∷◌, ◌++◌, map, filter, find, Some, None, refl, sym, ap, ◌∙◌, arith, eqb-true}
 use Rattle.std.specs.List.{list_any, AllByRecursion}
 use Rattle.std.specs.List.Sorted.{IsStrictlySortedBy}
 use Rattle.std.specs.Ordering.{nat_cmp, is_lt}
@@ -9,11 +9,10 @@ use Rattle.std.proofs.lemmas.Bool.Decides.{nat_tests}
 use Rattle.std.proofs.lemmas.List.Folds.{list_any-append}
 use Rattle.std.proofs.lemmas.Map.Keys.{sorted_head, sorted_tail}
 use Rattle.std.proofs.lemmas.Option.{same_Some}
-use Rattle.lists.proofs.Keyed.{cond_none, filter_none}
+use Rattle.lists.proofs.Keyed.{cond_none}
 use Rattle.lists.specs.Entries.{has, without, insert_by, in_order, pair_cmp, AreApart}
 use Rattle.runs.specs.Mentions.{mentions, numbers_of, IsJoined, IsParted, IsTold}
 use Rattle.runs.specs.Runs.{is_in}
-use Rattle.runs.proofs.Mentioned.{false_unless}
 use Rattle.runs.proofs.Numbers.{Rises, rises_none, rises_more, same_numbers, rises_in_order, in_in_order, in_numbers, rises_numbers}
 
 -- ---- tests

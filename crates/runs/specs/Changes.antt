@@ -3,7 +3,7 @@ use Rattle.std.specs.Prelude.{ℕ, ◌≡◌, ◌+◌, ◌==◌, Bool, true, fal
 use Rattle.kinds.specs.ErrorObject.{error_object}
 use Rattle.kinds.specs.RunSteps.{RunSteps, Noting, adds, known, full, is_pending, is_recorded, keep_step, note_pending, note_plan, pend_step, plan_step, record_step}
 use Rattle.kinds.specs.declared.store.Pending.{Pending}
-use Rattle.runs.specs.Runs.{Run, bytes_of_steps, run_at}
+use Rattle.runs.specs.Runs.{Run, bytes_of_steps}
 use Rattle.runs.specs.declared.naming.Naming.{Naming}
 use Rattle.runs.specs.declared.naming.Naming.TheVariants.{New, Known, Full}
 

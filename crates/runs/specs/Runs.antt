@@ -1,9 +1,9 @@
 -- Runs that have not ended or whose calls are open still, and the lists of them.
-use Rattle.std.specs.Prelude.{ℕ, ℤ, pos, ◌≡◌, ◌≤◌, ◌≤ℤ◌, neg_ℤ, ◌*ℤ◌, ◌-ℤ◌, ◌+◌, ◌==◌, Bool, true, false, List, [], ◌∷◌, length, find, Option, Some, None, is_some}
+use Rattle.std.specs.Prelude.{ℕ, ℤ, pos, ◌≡◌, ◌≤◌, ◌≤ℤ◌, neg_ℤ, ◌*ℤ◌, ◌-ℤ◌, ◌+◌, ◌==◌, Bool, true, List, [], ◌∷◌, length, find, Option, Some, None, is_some}
 use Rattle.std.specs.List.{list_any}
 use Rattle.lists.specs.Entries.{has, insert_by}
 use Rattle.kinds.specs.Moments.{last_moment}
-use Rattle.kinds.specs.RunSteps.{RunSteps, no_steps}
+use Rattle.kinds.specs.RunSteps.{RunSteps}
 use Rattle.kinds.specs.declared.cell.Cell.{Cell}
 use Rattle.kinds.specs.declared.cell.CellLimit.{CellLimit}
 use Rattle.kinds.specs.declared.store.Parent.{Parent}

@@ -2,6 +2,7 @@
 //! `lists`, `kinds`, `run_state` and `ordered`; contracts see plain lists of runs.
 #![tactic(auto)]
 
+mod boxed;
 mod ended;
 mod list;
 mod map;

@@ -6,7 +6,8 @@ ghost use Rattle.lists.specs.Entries.{AreApart, has, without, insert_by};
 ghost use Rattle.runs.specs.Runs.{run_number, run_at, bytes_of_results, names_event, has_version};
 ghost use Rattle.runs.specs.Changes.{changed, want, called, record_in, with_plan, with_pending, naming_in, if_new, is_pending_in, keep_in, plan_in, pend_in};
 
-use crate::map::{call_at, keep_at, pend_at, plan_at, wake_at, want_at};
+use crate::boxed::BoxedRun;
+use crate::map::{call_at, find_at, keep_at, pend_at, plan_at, put_at, take_at, wake_at, want_at};
 use crate::mentions::Mentions;
 use crate::{Naming, Run};
 use kinds::{Numbers, Pending, StepHash};
@@ -19,7 +20,7 @@ use std::marker::Model;
 #[derive(Drop)]
 pub(crate) struct RunList {
     alloc: Global,
-    runs: BTreeMap<u64, Run>,
+    runs: BTreeMap<u64, BoxedRun>,
     /// The bytes of the results of all.
     bytes: u64,
     events: Mentions,
@@ -70,7 +71,7 @@ impl RunList {
         let named = run.events();
         events.add_all(named, number)?;
         versions.add(run.version(), number)?;
-        runs.insert(number, run)?;
+        put_at(&mut runs, alloc, number, run)?;
         Ok(RunList {
             alloc,
             runs,
@@ -86,7 +87,7 @@ impl RunList {
         ensures left { self.new ≡ without run_number number self.old }
         ensures apart { AreApart run_number self.old }
     {
-        let run = self.runs.remove(&number)?;
+        let run = take_at(&mut self.runs, number)?;
         self.bytes -= run.bytes();
         self.events.remove_all(run.events(), number);
         self.versions.remove(run.version(), number);
@@ -97,7 +98,7 @@ impl RunList {
     pub(crate) fn get(&self, number: u64) -> Option<&Run>
         ensures { option_copied result ≡ run_at number self.now }
     {
-        self.runs.get(&number)
+        find_at(&self.runs, number)
     }
 
     pub(crate) fn len(&self) -> usize
@@ -167,7 +168,7 @@ impl RunList {
             self.new ≡ if_new n (changed number (record_in hash.now text) self.old) self.old) }
         ensures err { OnErr result (self.new ≡ self.old) }
     {
-        let Some(run) = self.runs.get(&number) else {
+        let Some(run) = find_at(&self.runs, number) else {
             return Ok(Naming::Known);
         };
         let text = run.fit(text)?;
@@ -190,7 +191,7 @@ impl RunList {
             self.new ≡ cond woken (changed number (record_in hash.now text) self.old) self.old) }
         ensures err { OnErr result (self.new ≡ self.old) }
     {
-        let Some(run) = self.runs.get(&number) else {
+        let Some(run) = find_at(&self.runs, number) else {
             return Ok(false);
         };
         if !run.is_pending(hash) {
@@ -232,7 +233,7 @@ impl RunList {
 /// Runs by reference, in order of number.
 #[derive(Drop)]
 pub struct Entries<'a> {
-    inner: btree_map::Values<'a, u64, Run>,
+    inner: btree_map::Values<'a, u64, BoxedRun>,
 }
 
 impl<'a> Model for Entries<'a> {
@@ -254,6 +255,9 @@ impl<'a> Iterator for Entries<'a> {
     ghost remaining = { item_count (λ e. e) };
 
     fn next(&mut self) -> Option<&'a Run> {
-        self.inner.next()
+        match self.inner.next() {
+            Some(run) => Some(run.run()),
+            None => None,
+        }
     }
 }

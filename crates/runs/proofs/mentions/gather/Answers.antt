@@ -1,4 +1,4 @@
-use Rattle.std.proofs.Common.{◌≡◌, sym, ◌∙◌, ap, subst}
+use Rattle.std.proofs.Common.{sym, ◌∙◌, subst}
 use Rattle.runs.proofs.Mentioned.{IsGathering, gathering_starts, gathering_on, gathering_stops, gathering_done, same_test, other_test}
 use Rattle.runs.proofs.mentions.gather.Goals as goal
 

@@ -1,4 +1,4 @@
-use Rattle.std.proofs.Common.{◌≤◌, ◌<◌, List, [], ◌∷◌, ◌++◌, find, length, ap, subst, arith, ◌∙◌}
+use Rattle.std.proofs.Common.{[], ◌∷◌, ◌++◌, find, ap, subst, arith, ◌∙◌}
 use Rattle.lists.specs.Entries.{has}
 use Rattle.runs.specs.Ended.{ended_number, outgoing}
 use Rattle.runs.specs.Mentions.{IsJoined, IsParted}

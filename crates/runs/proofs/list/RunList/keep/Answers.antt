@@ -1,5 +1,4 @@
-use Rattle.std.proofs.Common.{◌≡◌, ◌+◌, ◌∙◌, ap, refl, subst, sym}
-use Rattle.std.specs.Map.{values_of}
+use Rattle.std.proofs.Common.{◌+◌, ◌∙◌, ap, sym}
 use Rattle.runs.specs.Changes.{changed, if_new, record_in, naming_in, keep_in, with_result}
 use Rattle.runs.specs.Indexes.{changed_at, held}
 use Rattle.runs.specs.Runs.{run_at}

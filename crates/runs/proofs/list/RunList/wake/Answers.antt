@@ -1,4 +1,4 @@
-use Rattle.std.proofs.Common.{◌≡◌, ◌+◌, ◌∙◌, ap, refl, arith}
+use Rattle.std.proofs.Common.{◌+◌, ◌∙◌, ap, arith}
 use Rattle.runs.specs.Changes.{changed, is_pending_in, record_in}
 use Rattle.runs.specs.Runs.{run_at}
 use Rattle.runs.proofs.Listed.{held_found, indexed_recorded, sum_by}

@@ -1,4 +1,4 @@
-use Rattle.std.proofs.Common.{List, [], ◌∷◌, subst}
+use Rattle.std.proofs.Common.{[], ◌∷◌, subst}
 use Rattle.runs.specs.Mentions.{IsJoined}
 use Rattle.runs.proofs.Mentioned.{joined_one}
 use Rattle.runs.proofs.mentions.Mentions.add.Goals as goal

@@ -1,4 +1,4 @@
-use Rattle.std.proofs.Common.{List, [], ◌∷◌, subst}
+use Rattle.std.proofs.Common.{[], ◌∷◌, subst}
 use Rattle.runs.specs.Mentions.{IsParted}
 use Rattle.runs.proofs.Mentioned.{parted_one}
 use Rattle.runs.proofs.mentions.Mentions.remove.Goals as goal

@@ -1,4 +1,4 @@
-use Rattle.std.proofs.Common.{◌≡◌, refl, ap, ◌∙◌}
+use Rattle.std.proofs.Common.{refl}
 use Rattle.runs.specs.Changes.{want}
 use Rattle.runs.proofs.Listed.{disjoint_changed}
 use Rattle.runs.proofs.runs.Runs.want.Goals as goal
