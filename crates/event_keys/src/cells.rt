@@ -14,7 +14,7 @@ impl<'a> ReadEvent<'a> {
     pub fn cells_of(&self, alloc: Global, function: &Function) -> Result<CellLimits, Memory>
         ensures { IfOk result (λ cells. cells ≡ cells_of function.now self.now) }
     {
-        let mut cells = CellLimits::new(alloc);
+        let mut cells = CellLimits::with_room(alloc, function.limits.len())?;
         for limit in function.limits.as_slice() {
             let cell = self.cell_of(alloc, &function.id, limit)?;
             let added = CellLimit {
@@ -107,7 +107,7 @@ fn has_cell(cell: &Cell, limits: &[CellLimit]) -> bool
 fn lowered(alloc: Global, cells: CellLimits, added: &CellLimit) -> Result<CellLimits, Memory>
     ensures { IfOk result (λ all. all ≡ lowered added.now cells) }
 {
-    let mut all = CellLimits::new(alloc);
+    let mut all = CellLimits::with_room(alloc, cells.len())?;
     for other in cells {
         all.push(lesser_at(added, other))?;
     }
