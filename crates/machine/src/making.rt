@@ -259,7 +259,7 @@ fn drafts(
 ) -> Result<Items<Draft>, Memory>
     ensures { IfOk result (λ ds. ds ≡ map (draft_of moment event.now) function.now.cancels) }
 {
-    let mut drafts = Items::new(alloc);
+    let mut drafts = Items::with_room(alloc, function.cancels.len())?;
     for cancel in function.cancels.as_slice() {
         drafts.push(new_draft(alloc, cancel, event, moment)?)?;
     }
@@ -289,7 +289,7 @@ fn new_draft(
 fn cells_of(alloc: Global, run: &Run) -> Result<CellLimits, Memory>
     ensures { IfOk result (λ cells. cells ≡ run.now.cells) }
 {
-    let mut cells = CellLimits::new(alloc);
+    let mut cells = CellLimits::with_room(alloc, run.cells().len())?;
     for limit in run.cells() {
         cells.push(limit.clone()?)?;
     }
