@@ -1,3 +1,4 @@
+use crate::boxed::BoxedItem;
 use kinds::Item;
 use std::collections::btree_map;
 use std::marker::Model;
@@ -5,7 +6,7 @@ use std::marker::Model;
 /// The items of a [`ReadyQueue`](crate::ReadyQueue) by reference, in order of number.
 #[derive(Drop)]
 pub struct Entries<'a> {
-    pub(crate) inner: btree_map::Values<'a, u64, Item>,
+    pub(crate) inner: btree_map::Values<'a, u64, BoxedItem>,
 }
 
 impl<'a> Model for Entries<'a> {
@@ -27,6 +28,9 @@ impl<'a> Iterator for Entries<'a> {
     ghost remaining = { item_count (λ e. e) };
 
     fn next(&mut self) -> Option<&'a Item> {
-        self.inner.next()
+        match self.inner.next() {
+            Some(item) => Some(item.item()),
+            None => None,
+        }
     }
 }

@@ -9,9 +9,10 @@ ghost use Rattle.ready_queue.specs.Opens.{opens, HaveStarts};
 ghost use Rattle.ready_queue.specs.Places.{place_at, lowered, IsRaised, IsRestored, IsParkedAt, ParksNone, ParksOne, AreShut};
 
 use crate::Gate;
+use crate::boxed::BoxedItem;
 use crate::fronts::{Fronts, Place};
 use crate::walk::{comes_first, head, least_open};
-use kinds::{Item, Steps};
+use kinds::Steps;
 use lists::Memory;
 use std::alloc::Global;
 use std::collections::{BTreeMap, BTreeSet};
@@ -220,7 +221,7 @@ impl Index {
     /// The least key for whose item the gate is open. Looks once at each group that isn't parked.
     pub(crate) fn least_open<G: Gate, L: Ledger>(
         &self,
-        items: &BTreeMap<u64, Item>,
+        items: &BTreeMap<u64, BoxedItem>,
         t: u64,
         gate: &G,
         steps: &mut Steps<L>,

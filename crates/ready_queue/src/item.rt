@@ -5,6 +5,7 @@ ghost use Rattle.kinds.specs.Queue.{item_cmp, same_group, group_of};
 ghost use Rattle.ready_queue.specs.Heads.{has_lesser};
 ghost use Rattle.ready_queue.specs.Store.{IsScore, lifted};
 
+use crate::boxed::BoxedItem;
 use kinds::{Cell, CellLimits, Item};
 use lists::Memory;
 use std::collections::BTreeMap;
@@ -23,13 +24,18 @@ pub(crate) fn same_group(a: &Item, b: &Item) -> bool
     a.cells.cmp(&b.cells).then(a.start.cmp(&b.start)).is_eq()
 }
 
+fn is_lesser(other: &Item, item: &Item, t: u64) -> bool
+    ensures { result ≡ (nat_le other.now.due t && (is_lt (item_cmp other.now item.now) && same_group other.now item.now)) }
+{
+    other.due <= t && (comes_before(other, item) && same_group(other, item))
+}
+
 /// A due item of the same group comes before this one.
 #[tactic(auto, unfolding(crate::specs::Heads::has_lesser))]
-pub(crate) fn has_lesser(items: &BTreeMap<u64, Item>, item: &Item, t: u64) -> bool
+pub(crate) fn has_lesser(items: &BTreeMap<u64, BoxedItem>, item: &Item, t: u64) -> bool
     ensures { result ≡ has_lesser t (values items.now) item.now }
 {
-    items.values().any(|other| other.due <= t
-        && (comes_before(other, item) && same_group(other, item)))
+    items.values().any(|other| is_lesser(other.item(), item, t))
 }
 
 /// An item's score, counted from the least that there is.

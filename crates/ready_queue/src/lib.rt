@@ -5,6 +5,7 @@
 
 mod admission;
 mod ahead;
+mod boxed;
 mod entries;
 mod fronts;
 mod gate;

@@ -10,9 +10,10 @@ ghost use Rattle.ready_queue.specs.Keys.{Changes};
 ghost use Rattle.ready_queue.specs.Opens.{HaveStarts};
 
 use crate::Gate;
+use crate::boxed::BoxedItem;
 use crate::index::Index;
 use crate::item::{Group, copy_of};
-use kinds::{Item, Steps};
+use kinds::Steps;
 use lists::Memory;
 use std::alloc::Global;
 use std::collections::BTreeMap;
@@ -170,7 +171,7 @@ impl Ready {
     /// parked.
     pub(crate) fn least_open<G: Gate, L: Ledger>(
         &self,
-        items: &BTreeMap<u64, Item>,
+        items: &BTreeMap<u64, BoxedItem>,
         t: u64,
         gate: &G,
         steps: &mut Steps<L>,

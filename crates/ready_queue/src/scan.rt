@@ -8,6 +8,7 @@ ghost use Rattle.kinds.specs.declared.store.Item.{Item};
 ghost use Rattle.ready_queue.specs.Heads.{leads, joined, rank, least_rank, second, IsStep};
 
 use crate::Gate;
+use crate::boxed::BoxedItem;
 use crate::item::has_lesser;
 use kinds::{Item, Steps};
 use std::collections::BTreeMap;
@@ -35,7 +36,7 @@ fn stops(best: Option<(i64, u64)>, item: &Item) -> bool
 
 /// The first of the best so far and an item, where this is due, first of its group, and the gate is open.
 fn step<G: Gate, L: Ledger>(
-    items: &BTreeMap<u64, Item>,
+    items: &BTreeMap<u64, BoxedItem>,
     item: &Item,
     best: Option<(i64, u64)>,
     t: u64,
@@ -64,7 +65,7 @@ fn step<G: Gate, L: Ledger>(
 
 /// The first of the due items for which the gate is open. It is asked for the first due item of each group.
 pub(crate) fn least_open<G: Gate, L: Ledger>(
-    items: &BTreeMap<u64, Item>,
+    items: &BTreeMap<u64, BoxedItem>,
     t: u64,
     gate: &G,
     steps: &mut Steps<L>,
@@ -76,7 +77,7 @@ pub(crate) fn least_open<G: Gate, L: Ledger>(
 {
     let mut best: Option<(i64, u64)> = None;
     for item in items.values() {
-        best = step(items, item, best, t, gate, steps);
+        best = step(items, item.item(), best, t, gate, steps);
     }
     best
 }

@@ -5,6 +5,7 @@ ghost use Rattle.kinds.specs.Cells.{IsStart, last_moment};
 ghost use Rattle.kinds.specs.Queue.{has_number, without_number, insert_item, least_admissible, groups_of, next_item};
 ghost use Rattle.ready_queue.specs.Store.{IsScore, IsStore};
 
+use crate::boxed::{BoxedItem, find_at, put_at, take_at};
 use crate::moment::{moment_of, sooner};
 use crate::scan::{least_open, second};
 use crate::{Entries, Gate};
@@ -20,7 +21,8 @@ use throttle::Starts;
 /// Items under their numbers, each looked at where something is asked of all.
 #[derive(Drop)]
 pub(crate) struct Store {
-    items: BTreeMap<u64, Item>,
+    alloc: Global,
+    items: BTreeMap<u64, BoxedItem>,
 }
 
 impl Model for Store {
@@ -41,6 +43,7 @@ impl Store {
         ensures { result ≡ [] }
     {
         Store {
+            alloc,
             items: BTreeMap::new(alloc),
         }
     }
@@ -53,14 +56,15 @@ impl Store {
         ensures ok { OnOk result (self.new ≡ insert_item item self.old) }
         ensures err { OnErr result (self.new ≡ self.old) }
     {
-        self.items.insert(item.number, item)?;
+        let number = item.number;
+        put_at(&mut self.items, self.alloc, number, item)?;
         Ok(())
     }
 
     pub(crate) fn get(&self, number: u64) -> Option<&Item>
         ensures { option_copied result ≡ find (has_number number) self.now }
     {
-        self.items.get(&number)
+        find_at(&self.items, number)
     }
 
     /// The item of a number, where one has it.
@@ -68,7 +72,7 @@ impl Store {
         ensures found { option_copied result ≡ find (has_number number) self.now }
         ensures start { IfSome result (λ i. IsStart i.now.start) }
     {
-        let Some(item) = self.items.get(&number) else {
+        let Some(item) = find_at(&self.items, number) else {
             return None;
         };
         Some(item)
@@ -94,7 +98,7 @@ impl Store {
         ensures value { result ≡ find (has_number number) self.old }
         ensures left { self.new ≡ without_number number self.old }
     {
-        self.items.remove(&number)
+        take_at(&mut self.items, number)
     }
 
     /// The least of the items' next moments.
@@ -104,12 +108,12 @@ impl Store {
     {
         let mut next: Option<u64> = None;
         for item in self.items.values() {
-            next = sooner(next, moment_of(item, t, cells, throttle));
+            next = sooner(next, moment_of(item.item(), t, cells, throttle));
         }
         next
     }
 
-    pub(crate) fn map(&self) -> &BTreeMap<u64, Item>
+    pub(crate) fn map(&self) -> &BTreeMap<u64, BoxedItem>
         ensures values { values result.now ≡ self.now }
         ensures stored { IsStore result.now.entries }
     {

@@ -8,7 +8,8 @@ ghost use Rattle.ready_queue.specs.Keys.{key_cmp, at_most, stops, IsHead, IsLook
 ghost use Rattle.ready_queue.specs.Opens.{opens, HaveStarts};
 
 use crate::Gate;
-use kinds::{Item, Steps};
+use crate::boxed::{BoxedItem, find_at};
+use kinds::Steps;
 use std::collections::{BTreeMap, BTreeSet};
 use std::sync::ledger::Ledger;
 
@@ -47,7 +48,7 @@ pub(crate) fn head(keys: &BTreeSet<(u64, u64, u64)>, group: u64) -> Option<(u64,
 
 /// The gate is open for the item of this number.
 fn is_open<G: Gate, L: Ledger>(
-    items: &BTreeMap<u64, Item>,
+    items: &BTreeMap<u64, BoxedItem>,
     number: u64,
     t: u64,
     gate: &G,
@@ -58,7 +59,7 @@ fn is_open<G: Gate, L: Ledger>(
     ensures told { result ≡ opens (G.is_open gate.now t) items.now.entries number }
     ensures asked { steps.new ≤ steps.old + 1 }
 {
-    match items.get(&number) {
+    match find_at(items, number) {
         Some(item) => gate.open(&item.cells, item.start.as_ref(), t, steps),
         None => false,
     }
@@ -66,7 +67,7 @@ fn is_open<G: Gate, L: Ledger>(
 
 /// The first of the best so far and of the head of a group, where the gate is open for it.
 fn look<G: Gate, L: Ledger>(
-    items: &BTreeMap<u64, Item>,
+    items: &BTreeMap<u64, BoxedItem>,
     keys: &BTreeSet<(u64, u64, u64)>,
     group: u64,
     best: Option<(u64, u64)>,
@@ -95,7 +96,7 @@ fn look<G: Gate, L: Ledger>(
 
 /// The least key for whose item the gate is open: the groups in order of their places, one look at each.
 pub(crate) fn least_open<G: Gate, L: Ledger>(
-    items: &BTreeMap<u64, Item>,
+    items: &BTreeMap<u64, BoxedItem>,
     keys: &BTreeSet<(u64, u64, u64)>,
     places: &BTreeSet<(u64, u64, u64)>,
     t: u64,

@@ -1,5 +1,5 @@
 use Rattle.std.proofs.Common.{None, List, ◌∙◌, ap, subst}
-use Rattle.kinds.specs.Queue.{sooner}
+use Rattle.kinds.specs.Queue.{moment_of, sooner}
 use Rattle.kinds.specs.declared.store.Item.{Item}
 use Rattle.std.specs.Map.{values_of}
 use Rattle.ready_queue.proofs.ScanLemmas.{IsNext, next_start, next_on, next_end}
@@ -18,7 +18,7 @@ loop-item-preserved c = (
   tt,
   tt,
   next_on c.args.cells.now c.args.throttle.now c.args.t c.args.self.now _ c.in-Some.item.now _ c.loop-item.next c.sooner-next.result c.loop-item.invariant.2 c.in-Some.ensures.steps
-      (c.sooner-next.ensures ∙ ap (sooner c.loop-item.next) c.moment_of.ensures),
+      (c.sooner-next.ensures ∙ ap (sooner c.loop-item.next) (c.moment_of.ensures ∙ ap (moment_of c.args.cells.now c.args.throttle.now c.args.t) c.item.ensures)),
 )
 
 pub returns : goal.returns
