@@ -1,5 +1,5 @@
 -- Inputs that are taken and hashed one after another.
-use Rattle.std.proofs.Common.{◌≡◌, ℕ, zero, suc, ◌+◌, List, [], ◌++◌, Result, Ok, Err, ap, ◌∙◌, append_assoc, append-nil, arith, refl, subst}
+use Rattle.std.proofs.Common.{◌≡◌, ℕ, zero, suc, ◌+◌, [], ◌++◌, Result, Ok, Err, ap, ◌∙◌, append_assoc, append-nil, arith, refl, subst}
 use Rattle.generator.specs.Inputs.{drawn, drawn_next, event_input, registration, user_of}
 use Rattle.kinds.specs.declared.input.Input.{Input}
 use Rattle.sha1.specs.Sha1.{Holds}
@@ -25,6 +25,14 @@ hashes-then outcome next a b (Ok c) (t, e, h) (u, d, k) = (
 hashes-then outcome next a b (Err fault.Spent) (t, e, h) (u, d) =
     (t ++ u, ap (λ x. and_then x next) e ∙ ap (after_text t) d)
 hashes-then outcome next a b (Err fault.Memory) h k = tt
+
+-- an input that was made, and then more
+pub input-then : (input made : Input) (next : Progress → Outcome) (a b : Hashing) (r : Result Hashing InputFault)
+    → made ≡ input → Hashes (on_input a.progress made) a (Ok b) → Hashes (next b.progress) b r
+    → Hashes (and_then (on_input a.progress input) next) a r
+input-then input made next a b r is h k =
+    hashes-then (on_input a.progress input) next a b r
+    (subst (λ (x : Input). Hashes (on_input a.progress x) a (Ok b)) is h) k
 
 -- it had broken off
 pub hashes-fault : (outcome : Outcome) (next : Progress → Outcome) (a : Hashing) (e : InputFault)
@@ -103,11 +111,3 @@ replies-fault (suc count) n i m a e is h =
     subst (λ (k : ℕ). Hashes (on_replies n k a.progress) a (Err e)) same
     (hashes-fault (on_replies n (count + i) a.progress) (on_reply n) a e
     (replies-fault count n i (count + i) a e refl h))
-
--- ## All
-
-pub all-after : (n : ℕ) (input : Input) (a b : Hashing) (r : Result Hashing InputFault) → input ≡ registration
-    → Hashes (on_input a.progress input) a (Ok b) → Hashes (on_rest n b.progress) b r → Hashes (on_all n a.progress) a r
-all-after n input a b r is h k =
-    hashes-then (on_input a.progress registration) (on_rest n) a b r
-    (subst (λ (x : Input). Hashes (on_input a.progress x) a (Ok b)) is h) k

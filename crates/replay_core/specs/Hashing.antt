@@ -1,5 +1,5 @@
 -- Where the run of generated inputs stands.
-use Rattle.std.specs.Prelude.{ℕ, ◌≡◌, List, [], ◌++◌, Option, Some, None, Result, Ok, Err, ⊤}
+use Rattle.std.specs.Prelude.{ℕ, ◌≡◌, List, ◌++◌, Option, Some, Result, Ok, Err, ⊤}
 use Rattle.kinds.specs.declared.refusal.Refusal.{Refusal}
 use Rattle.kinds.specs.declared.refusal.Refusal.TheVariants.{UnknownCall, UnknownRun}
 use Rattle.sha1.specs.Sha1.{Holds}
