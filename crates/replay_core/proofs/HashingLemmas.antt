@@ -1,9 +1,14 @@
 -- Inputs that are taken and hashed one after another.
-use Rattle.std.proofs.Common.{◌≡◌, ℕ, zero, suc, ◌+◌, [], ◌++◌, Result, Ok, Err, ap, ◌∙◌, append_assoc, append-nil, arith, refl, subst}
-use Rattle.generator.specs.Inputs.{drawn, drawn_next, event_input, registration, user_of}
+use Rattle.std.proofs.Common.{◌*◌, Option, Some, None, sym, ◌≡◌, ℕ, zero, suc, ◌+◌, [], ◌++◌, Result, Ok, Err, ap, ◌∙◌, append_assoc, append-nil, arith, refl, subst}
+use Rattle.generator.specs.Inputs.{drawn, drawn_next, event_input, registration, reply_input, user_of}
 use Rattle.kinds.specs.declared.input.Input.{Input}
+use Rattle.machine.specs.Words.{open_call}
+use Rattle.machine.specs.declared.views.OpenCall.{OpenCall}
+use Rattle.run_model.specs.Next.{first_open, has_results}
+use Rattle.run_model.specs.State.{State, Issue}
+use Rattle.std.specs.Option.{option_map}
 use Rattle.sha1.specs.Sha1.{Holds}
-use Rattle.replay_core.specs.Generator.{on_all, on_event, on_events, on_replies, on_reply, on_rest}
+use Rattle.replay_core.specs.Generator.{on_any, on_event, on_events, on_replies, on_reply}
 use Rattle.replay_core.specs.Hashing.{Hashes}
 use Rattle.replay_core.specs.Replay.{Outcome, Progress, Goes, after_text, and_then, on_input}
 use Rattle.replay_core.specs.declared.generated.Hashing.{Hashing}
@@ -111,3 +116,24 @@ replies-fault (suc count) n i m a e is h =
     subst (λ (k : ℕ). Hashes (on_replies n k a.progress) a (Err e)) same
     (hashes-fault (on_replies n (count + i) a.progress) (on_reply n) a e
     (replies-fault count n i (count + i) a e refl h))
+
+-- ## The first open call
+
+reply-named : (i : ℕ) (s : State) (one : OpenCall) (found : Option Issue) → Some one ≡ option_map (open_call s) found
+    → option_map (λ (o : Issue). reply_input (10 * i) o.call (has_results s o) i) found
+    ≡ Some (reply_input (10 * i) one.call one.has_results i)
+reply-named i s one None is =
+    sym (ap (option_map (λ (o : OpenCall). reply_input (10 * i) o.call o.has_results i)) is)
+reply-named i s one (Some o) is =
+    sym (ap (option_map (λ (o : OpenCall). reply_input (10 * i) o.call o.has_results i)) is)
+
+pub reply-after : (i : ℕ) (a : Hashing) (one : OpenCall) (machine : State) (first : Option OpenCall) (reply : Input)
+    (r : Result Hashing InputFault) → machine ≡ a.progress.state
+    → first ≡ option_map (open_call machine) (first_open machine.issues) → first ≡ Some one
+    → reply ≡ reply_input (10 * i) one.call one.has_results i → Hashes (on_input a.progress reply) a r
+    → Hashes (on_reply i a.progress) a r
+reply-after i a one machine first reply r same given is made h =
+    let found : first ≡ option_map (open_call a.progress.state) (first_open a.progress.state.issues) =
+    subst (λ (m : State). first ≡ option_map (open_call m) (first_open m.issues)) same given in
+    let named = reply-named i a.progress.state one (first_open a.progress.state.issues) (sym is ∙ found) in
+    subst (λ (x : Option Input). Hashes (on_any a.progress x) a r) (ap Some made ∙ sym named) h
