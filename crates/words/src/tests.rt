@@ -7,7 +7,10 @@ use std::test::Fail;
 fn words_of(alloc: Global, row: &str) -> Result<Vec<String>, Fail> {
     let mut words = Vec::new(alloc);
     let mut rest = row;
-    while let Some((word, next)) = rest.split_once("|") {
+    for _word in 0..row.len() {
+        let Some((word, next)) = rest.split_once("|") else {
+            break;
+        };
         words.push(String::from_str(alloc, word)?)?;
         rest = next;
     }
