@@ -1,20 +1,15 @@
--- Starts of a cell by the greatest that stands for them, and the map of the greatests.
-use Rattle.std.proofs.Common.{◌≡◌, ℕ, ◌+◌, ◌*◌, nat_le, Bool, true, false, cond, ◌&&◌, List, [], ◌∷◌, ◌++◌, Option, Some, None, refl, sym, ap, ◌∙◌, arith, length, max}
-use Rattle.std.specs.BTreeMap.{insert_entry, is_at}
-use Rattle.std.specs.List.{find, filter}
-use Rattle.std.specs.List.Sorted.{IsStrictlySortedBy}
-use Rattle.std.specs.Map.{keys_of, values_of, lookup}
+-- Starts of a cell by the greatest that stands for them, and the list of the greatests.
+use Rattle.std.proofs.Common.{◌≡◌, ℕ, ◌+◌, ◌*◌, nat_le, cond, ◌&&◌, List, [], ◌∷◌, ◌++◌, Option, Some, None, refl, ap, ◌∙◌, arith, length, max}
+use Rattle.std.specs.List.{find}
 use Rattle.std.specs.Ordering.{is_eq, match_ordering}
 use Rattle.std.specs.declared.cmp.Ordering.{Ordering}
 use Rattle.std.specs.declared.cmp.Ordering.TheVariants.{Less, Equal, Greater}
 use Rattle.std.proofs.lemmas.Bool.Decides.{nat_tests}
 use Rattle.std.proofs.lemmas.Cmp.{tied_itself}
-use Rattle.kinds.proofs.CellLemmas.{cell_total, cell_tied}
-use Rattle.kinds.specs.Cells.{cell_cmp, is_cell, spacing, slack, lets_start, greatest_of, has_start, greatest_in, greatest_at, put_start}
+use Rattle.kinds.proofs.CellLemmas.{cell_total}
+use Rattle.kinds.specs.Cells.{cell_cmp, is_cell, spacing, slack, lets_start, greatest_of, has_start, put_start}
 use Rattle.kinds.specs.declared.cell.Cell.{Cell}
 use Rattle.kinds.specs.declared.cell.StartEntry.{StartEntry}
-use Rattle.lists.proofs.Keyed.{keyed}
-use Rattle.lists.proofs.Stored.{IsStored, stored_from, stored_found}
 
 -- ---- lists of starts
 
@@ -46,43 +41,7 @@ greatest_after cell (s ∷ later) t =
     (let more = ap (λ n. (1 + n) * spacing cell) (length_last later t) ∙ times_more (length later) (spacing cell) in omega (arith, more))
     (greatest_after cell later t)
 
--- ---- the map
-
-abbrev pub cell_of : StartEntry → Cell
-cell_of entry = entry.cell
-
-put_keyed : (x : StartEntry) (es : List StartEntry) → insert_entry cell_cmp (keyed cell_cmp cell_of es) x.cell x ≡ keyed cell_cmp cell_of (put_start x es)
-put_keyed x [] = refl
-put_keyed x (e ∷ es) = by_order (cell_cmp x.cell e.cell) refl (put_keyed x es)
-  where
-    by_order : (o : Ordering) → cell_cmp x.cell e.cell ≡ o → insert_entry cell_cmp (keyed cell_cmp cell_of es) x.cell x ≡ keyed cell_cmp cell_of (put_start x es)
-        → match_ordering o ((x.cell, x) ∷ keyed cell_cmp cell_of (e ∷ es)) ((e.cell, x) ∷ keyed cell_cmp cell_of es) ((e.cell, e) ∷ insert_entry cell_cmp (keyed cell_cmp cell_of es) x.cell x)
-        ≡ keyed cell_cmp cell_of (match_ordering o (x ∷ e ∷ es) (x ∷ es) (e ∷ put_start x es))
-    by_order Less h more = refl
-    by_order Equal h more = ap (λ c. (c, x) ∷ keyed cell_cmp cell_of es) (sym (cell_tied x.cell e.cell h))
-    by_order Greater h more = ap (λ r. (e.cell, e) ∷ r) more
-
-pub starts_put : (old new : List (Cell × StartEntry)) (x : StartEntry) → IsStored cell_cmp cell_of old → new ≡ insert_entry cell_cmp old x.cell x → IsStrictlySortedBy cell_cmp (keys_of new)
-    → (values_of new ≡ put_start x (values_of old)) × IsStored cell_cmp cell_of new
-starts_put old new x k e s = stored_from cell_cmp cell_of new (put_start x (values_of old)) (e ∙ ap (λ r. insert_entry cell_cmp r x.cell x) k.keyed ∙ put_keyed x (values_of old)) s
-
-filter_keyed : (p : StartEntry → Bool) (es : List StartEntry) → filter (λ (e : Cell × StartEntry). p e.1) (keyed cell_cmp cell_of es) ≡ keyed cell_cmp cell_of (filter p es)
-filter_keyed p [] = refl
-filter_keyed p (e ∷ es) = by_test (p e) (filter_keyed p es)
-  where
-    by_test : (b : Bool) → filter (λ (r : Cell × StartEntry). p r.1) (keyed cell_cmp cell_of es) ≡ keyed cell_cmp cell_of (filter p es)
-        → cond b ((e.cell, e) ∷ filter (λ (r : Cell × StartEntry). p r.1) (keyed cell_cmp cell_of es)) (filter (λ (r : Cell × StartEntry). p r.1) (keyed cell_cmp cell_of es))
-        ≡ keyed cell_cmp cell_of (cond b (e ∷ filter p es) (filter p es))
-    by_test true more = ap (λ r. (e.cell, e) ∷ r) more
-    by_test false more = more
-
-pub starts_kept : (p : StartEntry → Bool) (old new : List (Cell × StartEntry)) → IsStored cell_cmp cell_of old → new ≡ filter (λ (e : Cell × StartEntry). p e.1) old → IsStrictlySortedBy cell_cmp (keys_of new)
-    → (values_of new ≡ filter p (values_of old)) × IsStored cell_cmp cell_of new
-starts_kept p old new k e s = stored_from cell_cmp cell_of new (filter p (values_of old)) (e ∙ ap (filter (λ (r : Cell × StartEntry). p r.1)) k.keyed ∙ filter_keyed p (values_of old)) s
-
-pub greatest_found : (cell : Cell) (pairs : List (Cell × StartEntry)) (o : Option StartEntry) → IsStored cell_cmp cell_of pairs → o ≡ lookup (is_at (cell_cmp cell)) pairs
-    → greatest_in o ≡ greatest_at cell (values_of pairs)
-greatest_found cell pairs o k h = ap greatest_in (h ∙ stored_found cell_cmp cell_of pairs cell k)
+-- ---- the list of entries
 
 -- what was put is found
 pub put_found : (x : StartEntry) (es : List StartEntry) → find (has_start x.cell) (put_start x es) ≡ Some x

@@ -1,1 +1,2 @@
 pub mod Inequality
+pub mod Places

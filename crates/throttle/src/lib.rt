@@ -3,6 +3,7 @@
 #![tactic(auto)]
 
 mod entries;
+mod places;
 mod starts;
 
 pub use entries::Entries;

@@ -1,8 +1,9 @@
-ghost use Rattle.std.specs.Prelude.{◌≡◌, ◌≤◌, ℕ, [], true, find, None, OnOk, OnErr, nat_le};
+ghost use Rattle.std.specs.Prelude.{◌≡◌, ◌<◌, ◌≤◌, ℕ, [], true, false, find, length, None, OnOk, OnErr, nat_le};
 ghost use Rattle.kinds.specs.Cells.{IsThrottle, last_moment, spacing, slack, has_start, greatest_at, is_allowed, release_moment, after_start, later_starts};
 ghost use Rattle.throttle.specs.Inequality.{FollowsInequality, StandsForOneMore, put_greatest};
 
 use crate::Entries;
+use crate::places::{Place, leave, settle, stand};
 use kinds::{Cell, StartEntry};
 use lists::Memory;
 use std::alloc::Global;
@@ -14,21 +15,21 @@ use std::marker::Model;
 /// and each list of starts that an entry stands for. Moments are milliseconds since 1970.
 #[derive(Drop)]
 pub struct Starts {
-    entries: BTreeMap<Cell, StartEntry>,
+    places: BTreeMap<Cell, Place>,
+    entries: BTreeMap<Place, StartEntry>,
+    next: u64,
 }
 
 impl Model for Starts {
     ghost use Rattle.std.specs.Prelude.{List};
-    ghost use Rattle.std.specs.BTreeMap.{values};
-    ghost use Rattle.kinds.specs.Cells.{cell_cmp};
     ghost use Rattle.kinds.specs.declared.cell.StartEntry.{StartEntry};
-    ghost use Rattle.lists.proofs.Stored.{IsStored};
+    ghost use Rattle.throttle.specs.Places.{entries_of, IsIndexed};
 
     ghost Value = { List StartEntry };
 
-    ghost view = { λ s. values s.entries };
+    ghost view = { λ s. entries_of s.places.entries };
 
-    ghost invariant = { λ s. IsStored cell_cmp (λ (e : StartEntry). e.cell) s.entries.entries };
+    ghost invariant = { λ s. IsIndexed s.places.entries s.entries.entries s.next };
 }
 
 /// The time between two starts in milliseconds, and how far ahead of it a cell may run.
@@ -71,7 +72,9 @@ impl Starts {
         ensures { result ≡ [] }
     {
         Starts {
+            places: BTreeMap::new(alloc),
             entries: BTreeMap::new(alloc),
+            next: 0,
         }
     }
 
@@ -79,8 +82,8 @@ impl Starts {
     fn greatest(&self, cell: &Cell) -> u64
         ensures { result ≡ greatest_at cell.now self.now }
     {
-        match self.entries.get(cell) {
-            Some(entry) => entry.greatest,
+        match self.places.get(cell) {
+            Some(place) => place.0,
             None => 0,
         }
     }
@@ -135,21 +138,49 @@ impl Starts {
         ensures ok { OnOk result (self.new ≡ put_greatest cell.now greatest self.old) }
         ensures err { OnErr result (self.new ≡ self.old) }
     {
-        let key = cell.clone()?;
-        let entry = StartEntry {
-            cell: cell.clone()?,
-            greatest,
+        let place = (greatest, self.next);
+        let Some(next) = self.next.checked_add(1) else {
+            return Err(Memory);
         };
-        self.entries.insert(key, entry)?;
-        Ok(())
+        stand(&mut self.entries, cell, place)?;
+        self.next = next;
+        match settle(&mut self.places, cell, place) {
+            Ok(Some(left)) => {
+                leave(&mut self.entries, left);
+                return Ok(());
+            }
+            Ok(None) => return Ok(()),
+            Err(_) => {
+                leave(&mut self.entries, place);
+                return Err(Memory);
+            }
+        }
     }
 
     /// Drops the entries that tell nothing of starts from a moment on: from their greatest on, a cell lets
-    /// runs start as if it were new.
+    /// runs start as if it were new. Looks at these entries alone.
     pub fn forget(&mut self, moment: u64)
         ensures { self.new ≡ later_starts moment self.old }
     {
-        self.entries.retain(|_, entry| moment < entry.greatest);
+        while self.forget_first(moment) {}
+    }
+
+    // Drops the entry of the least greatest, where that isn't after the moment.
+    fn forget_first(&mut self, moment: u64) -> bool
+        ensures later { later_starts moment self.new ≡ later_starts moment self.old }
+        ensures fewer { result ≡ true → length self.new < length self.old }
+        ensures rest { result ≡ false → self.new ≡ later_starts moment self.old }
+    {
+        let Some((place, entry)) = self.entries.first_key_value() else {
+            return false;
+        };
+        if moment < place.0 {
+            return false;
+        }
+        self.places.remove(&entry.cell);
+        let place = *place;
+        leave(&mut self.entries, place);
+        true
     }
 
     /// The entries by reference, in order of cell.
@@ -157,7 +188,8 @@ impl Starts {
         ensures { result ≡ self.now }
     {
         Entries {
-            inner: self.entries.values(),
+            places: self.places.iter(),
+            entries: &self.entries,
         }
     }
 }

@@ -1,26 +1,28 @@
-use Rattle.std.proofs.Common.{ℕ, ◌∙◌, ap, ap₂}
-use Rattle.std.specs.BTreeMap.{insert_entry}
-use Rattle.kinds.proofs.CellLemmas.{cell_same}
-use Rattle.kinds.specs.Cells.{cell_cmp, put_start}
-use Rattle.kinds.specs.declared.cell.Cell.{Cell}
-use Rattle.kinds.specs.declared.cell.StartEntry.{StartEntry}
-use Rattle.throttle.proofs.StartLemmas.{starts_put}
+use Rattle.std.proofs.Common.{None, refl, ap, ◌∙◌, subst}
+use Rattle.kinds.specs.Cells.{put_start}
+use Rattle.throttle.specs.Places.{entry_of, entries_of, Changes, Settles}
+use Rattle.throttle.proofs.PlaceLemmas.{indexed_over, indexed_new, indexed_back, place_put}
 use Rattle.throttle.proofs.starts.Starts.put.Goals as goal
 
-abbrev entry_of : Cell → ℕ → StartEntry
-entry_of cell greatest = record { cell = cell; greatest = greatest }
+pub invariant_of-self-in-Ok-Some : goal.invariant_of-self-in-Ok-Some
+invariant_of-self-in-Ok-Some c =
+    indexed_over _ _ _ _ _ c.self.invariant c.args.cell.now (c.args.greatest, c.self.inside.next) _ _ refl c.in-Some.ensures.1 c.in_ok-stand.ensures.ok c.in-Ok-Some.left (subst (λ o. Settles c.args.cell.now (c.args.greatest, c.self.inside.next) o c.self.inside.places.entries c.settle.new.places.entries) c.in-Ok-Some.field-0-is c.in-Ok-Some.ensures.ok)
+    (subst (λ l. Changes l None c.stand.new.entries.entries c.leave.new.entries.entries) c.in-Ok-Some.left-is c.leave.ensures)
 
-pub invariant_of-self-2 : goal.invariant_of-self-2
-invariant_of-self-2 c =
-    let key = cell_same c.args.cell.now c.in_ok-key.key c.in_ok-key.ensures.cases in
-    let held = cell_same c.args.cell.now c.in_ok-clone.field-0 c.in_ok-clone.ensures.cases in
-    (starts_put c.self.inside.entries.entries c.insert.new.self.entries (entry_of c.args.cell.now c.args.greatest) c.self.invariant
-    (c.in_ok-insert.ensures.entries ∙ ap₂ (λ k h. insert_entry cell_cmp c.self.inside.entries.entries k (entry_of h c.args.greatest)) key held) c.in_ok-insert.ensures.ordered).1
+pub returns-in-Ok-Some-clause-ok : goal.returns-in-Ok-Some-clause-ok
+returns-in-Ok-Some-clause-ok c =
+    ap entries_of c.in-Ok-Some.ensures.ok.entries ∙ place_put c.args.cell.now (c.args.greatest, c.self.inside.next) c.self.inside.places.entries
+    ∙ ap (put_start (entry_of (c.args.cell.now, (c.args.greatest, c.self.inside.next)))) c.self.view_is
 
-pub returns-clause-ok : goal.returns-clause-ok
-returns-clause-ok c =
-    let key = cell_same c.args.cell.now c.in_ok-key.key c.in_ok-key.ensures.cases in
-    let held = cell_same c.args.cell.now c.in_ok-clone.field-0 c.in_ok-clone.ensures.cases in
-    (starts_put c.self.inside.entries.entries c.insert.new.self.entries (entry_of c.args.cell.now c.args.greatest) c.self.invariant
-    (c.in_ok-insert.ensures.entries ∙ ap₂ (λ k h. insert_entry cell_cmp c.self.inside.entries.entries k (entry_of h c.args.greatest)) key held) c.in_ok-insert.ensures.ordered).0
-    ∙ ap (put_start (entry_of c.args.cell.now c.args.greatest)) c.self.view_is
+pub invariant_of-self-in-Ok-None : goal.invariant_of-self-in-Ok-None
+invariant_of-self-in-Ok-None c =
+    indexed_new _ _ _ _ _ c.self.invariant c.args.cell.now (c.args.greatest, c.self.inside.next) _ _ refl c.in-Some.ensures.1 c.in_ok-stand.ensures.ok (subst (λ o. Settles c.args.cell.now (c.args.greatest, c.self.inside.next) o c.self.inside.places.entries c.settle.new.places.entries) c.in-Ok-None.field-0-is c.in-Ok-None.ensures.ok) refl
+
+pub returns-in-Ok-None-clause-ok : goal.returns-in-Ok-None-clause-ok
+returns-in-Ok-None-clause-ok c =
+    ap entries_of c.in-Ok-None.ensures.ok.entries ∙ place_put c.args.cell.now (c.args.greatest, c.self.inside.next) c.self.inside.places.entries
+    ∙ ap (put_start (entry_of (c.args.cell.now, (c.args.greatest, c.self.inside.next)))) c.self.view_is
+
+pub invariant_of-self-in-Err : goal.invariant_of-self-in-Err
+invariant_of-self-in-Err c =
+    indexed_back _ _ _ _ _ c.self.invariant c.args.cell.now (c.args.greatest, c.self.inside.next) _ _ refl c.in-Some.ensures.1 c.in_ok-stand.ensures.ok c.in-Err.ensures.err c.leave-in-Err.ensures
