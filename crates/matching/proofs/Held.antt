@@ -1,5 +1,5 @@
 -- An entry that came and went.
-use Rattle.std.proofs.Common.{◌≡◌, ℕ, cond, List, [], ◌∷◌, None, refl, sym, ap, ap₂, ◌∙◌}
+use Rattle.std.proofs.Common.{◌≡◌, ℕ, cond, List, [], ◌∷◌, None, refl, ap, ap₂, ◌∙◌}
 use Rattle.std.specs.List.{find}
 use Rattle.std.specs.Ordering.{nat_cmp, is_lt}
 use Rattle.lists.specs.Entries.{has, without, insert_in, insert_by, key_of, pair_cmp}

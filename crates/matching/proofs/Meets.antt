@@ -1,6 +1,6 @@
 -- Looking near is enough: what an event meets, and what is evaluated for it.
-use Rattle.std.proofs.Common.{◌≡◌, ℕ, ◌≤◌, ◌+◌, Bool, true, false, not, ◌&&◌, List, [], ◌∷◌, cond, filter, map, length, find, Option, Some, None, Result, Ok, Err, if◌then◌else◌, refl, sym, ap, ◌∙◌, subst, arith}
-use Rattle.std.specs.Option.{is_some, option_map}
+use Rattle.std.proofs.Common.{◌≡◌, ℕ, Bool, true, false, not, ◌&&◌, List, [], ◌∷◌, cond, filter, map, length, find, Option, Some, None, Result, Ok, Err, refl, ap, ◌∙◌, subst, arith}
+use Rattle.std.specs.Option.{is_some, option_and, option_map}
 use Rattle.std.specs.Result.{IfOk}
 use Rattle.std.specs.Str.{bytes_eq}
 use Rattle.std.specs.List.{list_any, AllByRecursion}
@@ -13,7 +13,7 @@ use Rattle.kinds.specs.declared.store.Bucket.{Bucket}
 use Rattle.kinds.specs.Stores.{Condition, Truth, Values, is_met, is_true_of, is_asked, is_hidden, is_value, is_in_bucket, AreBucketsRight}
 use Rattle.ordered.specs.Indexes.{IsListed}
 use Rattle.matching.specs.declared.place.Field.{Field}
-use Rattle.matching.specs.Places.{place_of, place_cmp, bucket_of, value_in, value_for, is_near, is_wanted, has_number}
+use Rattle.matching.specs.Places.{place_of, place_cmp, value_in, value_for, is_near, is_wanted, has_number}
 use Rattle.matching.specs.Met.{passes, met_numbers, asked_count, meets_at, asks_at, asks}
 use Rattle.matching.proofs.Fields.{place_total, place_same}
 use Rattle.matching.proofs.Picked.{picks, placed}
@@ -29,7 +29,7 @@ not_not false = refl
 module _ (values : Values) (event : Event) where
   -- the bucket of a condition, as its place shows it
   in_place : (e : Option (List ℕ)) (bucket : Option Bucket)
-      → is_value (value_in (if is_some e then bucket else None)) (value_for values event (option_map (λ (b : Bucket). b.path) (if is_some e then bucket else None))) ≡ not (is_some e && not (is_in_bucket values event bucket))
+      → is_value (value_in (option_and e bucket)) (value_for values event (option_map (λ (b : Bucket). b.path) (option_and e bucket))) ≡ not (is_some e && not (is_in_bucket values event bucket))
   in_place None bucket = refl
   in_place (Some e) None = refl
   in_place (Some e) (Some b) = not_not (is_value b.value (values event b.path))

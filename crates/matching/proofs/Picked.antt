@@ -1,8 +1,6 @@
 -- The numbers that a test picks out of those that are looked at are those that it picks out of all entries.
-use Rattle.std.proofs.Common.{◌≡◌, ℕ, ◌==◌, Bool, true, false, cond, not, ◌&&◌, ◌||◌, List, [], ◌∷◌, filter, map, Option, Some, None, refl, sym, ap, ◌∙◌, arith, subst, eqb-true, find}
+use Rattle.std.proofs.Common.{◌≡◌, ℕ, ◌==◌, Bool, true, false, cond, ◌&&◌, ◌||◌, List, [], ◌∷◌, filter, map, Option, Some, None, refl, sym, ap, ◌∙◌, arith, subst, eqb-true, find}
 use Rattle.std.specs.Cmp.{IsTotalOrder}
-use Rattle.std.specs.Option.{is_some}
-use Rattle.std.specs.Str.{bytes_eq}
 use Rattle.std.specs.List.{list_any, AllByRecursion}
 use Rattle.std.specs.List.Sorted.{IsStrictlySortedBy}
 use Rattle.std.specs.BTreeMap.{is_at}
@@ -18,7 +16,7 @@ use Rattle.lists.specs.Entries.{has, key_of, pair_cmp, AreApart, IsInOrder}
 use Rattle.lists.proofs.Elements.{all-weaker}
 use Rattle.ordered.specs.Indexes.{group_cmp, has_part, IsListed}
 use Rattle.ordered.proofs.Listed.{group_at}
-use Rattle.ordered.proofs.Apart.{number_tells, at_number, found}
+use Rattle.ordered.proofs.Apart.{number_tells, at_number}
 use Rattle.matching.specs.Places.{has_number}
 use Rattle.matching.specs.Met.{passes}
 use Rattle.matching.proofs.Order.{any_none}

@@ -1,6 +1,5 @@
 -- The fields of a name, one by one in order, and the numbers that each adds.
 use Rattle.std.proofs.Common.{◌≡◌, ◌⊎◌, inl, inr, ℕ, ◌<◌, ◌==◌, Bool, true, false, cond, not, ◌&&◌, ◌||◌, List, [], ◌∷◌, filter, length, Option, Some, None, Result, Ok, Err, refl, sym, ap, ◌∙◌, subst, arith}
-use Rattle.std.specs.Cmp.{IsTotalOrder}
 use Rattle.std.specs.Cmp.Lexicographic.{slice_cmp}
 use Rattle.std.specs.Option.{option_cmp}
 use Rattle.std.specs.Str.{bytes_eq}
@@ -24,7 +23,7 @@ use Rattle.ordered.specs.Indexes.{group_cmp}
 use Rattle.ordered.proofs.Listed.{group_at}
 use Rattle.matching.specs.declared.place.Field.{Field}
 use Rattle.matching.specs.Places.{field_cmp, place_cmp, field_after, has_number, is_wanted, is_near, value_for, IsNext}
-use Rattle.matching.proofs.Order.{any_same, any_or, fewer, before, after, less, tied, none_kept, first_kept}
+use Rattle.matching.proofs.Order.{any_same, any_or, fewer, before, less, none_kept, first_kept}
 use Rattle.matching.proofs.Fields.{field_total, field_same, field_behind}
 
 -- ---- one field

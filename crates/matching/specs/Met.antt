@@ -1,6 +1,6 @@
 -- Which entries of an index an event meets, and which conditions are evaluated for it.
-use Rattle.std.specs.Prelude.{ℕ, Bool, ◌&&◌, List, map, filter, find, length, Option, Some, None, false, if◌then◌else◌}
-use Rattle.std.specs.Option.{is_some}
+use Rattle.std.specs.Prelude.{ℕ, Bool, ◌&&◌, List, map, filter, find, length, Option, Some, None, false}
+use Rattle.std.specs.Option.{is_some, option_map}
 use Rattle.std.specs.Str.{bytes_eq}
 use Rattle.lists.specs.Entries.{has, in_order}
 use Rattle.kinds.specs.declared.event.Event.{Event}
@@ -20,10 +20,6 @@ abbrev pub met_runs : {X : Type 0} → (X → Condition) → (X → ℕ) → Tru
 met_runs condition run truth event es =
     in_order (map run (filter (λ e. is_met truth event (condition e)) es))
 
-abbrev pub run_if : {X : Type 0} → (X → Bool) → (X → ℕ) → Option X → Option ℕ
-run_if test run None = None
-run_if test run (Some e) = if test e then Some (run e) else None
-
 -- how many conditions may be evaluated for an event
 abbrev pub asked_count : {X : Type 0} → (X → Condition) → Values → Event → List X → ℕ
 asked_count condition values event es = length (filter (λ e. is_asked values event (condition e)) es)
@@ -39,7 +35,6 @@ meets_at condition number truth event es n =
 abbrev pub asks_at : {X : Type 0} → (X → Condition) → (X → ℕ) → Event → List X → ℕ → Bool
 asks_at condition number event es n = passes (λ e. asks event (condition e)) (find (has number n) es)
 
--- the run of the entry that has a number, where an event meets it
-abbrev pub run_at : {X : Type 0} → (X → Condition) → (X → ℕ) → (X → ℕ) → Truth → Event → List X → ℕ → Option ℕ
-run_at condition run number truth event es n =
-    run_if (λ e. is_met truth event (condition e)) run (find (has number n) es)
+-- the run of the entry that has a number
+abbrev pub run_at : {X : Type 0} → (X → ℕ) → (X → ℕ) → List X → ℕ → Option ℕ
+run_at run number es n = option_map run (find (has number n) es)

@@ -1,6 +1,6 @@
 -- Where an index keeps what it matches with events: by name, by the path of a bucket, and by its value.
-use Rattle.std.specs.Prelude.{◌≡◌, ◌⊎◌, ℕ, ◌==◌, Bool, true, false, ◌&&◌, List, [], ◌∷◌, ◌++◌, Option, Some, None, if◌then◌else◌}
-use Rattle.std.specs.Option.{is_some, option_map, option_cmp}
+use Rattle.std.specs.Prelude.{◌≡◌, ◌⊎◌, ℕ, ◌==◌, Bool, true, false, ◌&&◌, List, [], ◌∷◌, ◌++◌, Option, Some, None}
+use Rattle.std.specs.Option.{option_and, option_map, option_cmp}
 use Rattle.std.specs.List.{list_any, AllByRecursion}
 use Rattle.std.specs.BTreeMap.{is_at}
 use Rattle.std.specs.Ordering.{nat_cmp, ordering_then, is_lt, is_gt, is_eq}
@@ -14,7 +14,7 @@ use Rattle.matching.specs.declared.place.Field.{Field}
 
 -- A bucket counts where there is a condition that it may spare.
 abbrev pub bucket_of : Condition → Option Bucket
-bucket_of c = if is_some c.cond then c.bucket else None
+bucket_of c = option_and c.cond c.bucket
 
 abbrev pub value_in : Option Bucket → List ℕ
 value_in None = []

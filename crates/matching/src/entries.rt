@@ -1,6 +1,6 @@
 // Waits and cancel rules as entries of an index.
 use crate::conditional::Conditional;
-use crate::place::{Field, counted, place_from};
+use crate::place::{Field, place_from};
 use expr::Expr;
 use kinds::{Bucket, Rule, Wait};
 use lists::Bytes;
@@ -25,14 +25,11 @@ impl Conditional for Wait {
     }
 
     fn bucket(&self) -> Option<&Bucket> {
-        match &self.cond {
-            Some(_) => self.bucket.as_ref(),
-            None => None,
-        }
+        self.cond.as_ref().and(self.bucket.as_ref())
     }
 
     fn into_place(self, alloc: Global) -> (Field, Bytes) {
-        place_from(alloc, self.name, counted(self.cond, self.bucket))
+        place_from(alloc, self.name, self.cond.and(self.bucket))
     }
 
     ghost by_number = { λ e. refl };
@@ -57,14 +54,11 @@ impl Conditional for Rule {
     }
 
     fn bucket(&self) -> Option<&Bucket> {
-        match &self.cond {
-            Some(_) => self.bucket.as_ref(),
-            None => None,
-        }
+        self.cond.as_ref().and(self.bucket.as_ref())
     }
 
     fn into_place(self, alloc: Global) -> (Field, Bytes) {
-        place_from(alloc, self.name, counted(self.cond, self.bucket))
+        place_from(alloc, self.name, self.cond.and(self.bucket))
     }
 
     ghost by_number = { λ e. refl };

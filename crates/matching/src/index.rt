@@ -5,7 +5,7 @@ ghost use Rattle.std.specs.Option.{option_copied};
 ghost use Rattle.std.specs.List.Sorted.{IsStrictlySortedBy};
 ghost use Rattle.std.specs.Ordering.{nat_cmp};
 ghost use Rattle.std.specs.List.{filter_map};
-ghost use Rattle.lists.specs.Entries.{has, without, insert_by, in_order};
+ghost use Rattle.lists.specs.Entries.{has, without, insert_by, in_order, AreApart};
 ghost use Rattle.kinds.specs.Stores.{AreBucketsRight, is_met};
 ghost use Rattle.matching.specs.Places.{place_of};
 ghost use Rattle.matching.specs.Met.{met_numbers, met_runs, run_at, asked_count, meets_at, asks_at, asks};
@@ -182,59 +182,24 @@ impl<E: Conditional> Index<E> {
         ensures asked { steps.new ≤ steps.old
             + asked_count E.condition_of (M.value_of matcher.now) event.now self.now }
     {
+        let met = self.matches(event, matcher, steps)?;
+        self.runs_of(met.as_slice())
+    }
+
+    // The runs of the entries that have some numbers, each once, in order.
+    fn runs_of(&self, numbers: &[u64]) -> Result<Numbers, Memory>
+        ensures runs { IfOk result (λ rs. rs
+            ≡ in_order (filter_map (run_at E.run_of E.number_of self.now) numbers.now)) }
+        ensures apart { AreApart E.number_of self.now }
+    {
         self.entries.order();
-        let near = near(self.alloc, &self.places, event, matcher)?;
-        let runs = self.pick_runs(&near, event, matcher, steps)?;
-        to_numbers(self.alloc, &runs)
-    }
-
-    // The runs of those of some numbers whose entries an event meets.
-    fn pick_runs<M: Matcher, L: Ledger>(
-        &self,
-        near: &BTreeSet<u64>,
-        event: &Event,
-        matcher: &M,
-        steps: &mut Steps<L>,
-    ) -> Result<BTreeSet<u64>, Memory>
-        ensures met { IfOk result (λ s. s.keys ≡ in_order (filter_map
-            (run_at E.condition_of E.run_of E.number_of (M.is_true matcher.now) event.now self.now)
-            near.now.keys)) }
-        ensures asked { steps.new ≤ steps.old
-            + length (filter (asks_at E.condition_of E.number_of event.now self.now) near.now.keys) }
-        ensures ordered { IsStrictlySortedBy nat_cmp near.now.keys }
-    {
         let mut runs = BTreeSet::new(self.alloc);
-        for number in near.iter() {
-            if let Some(run) = self.met_run(*number, event, matcher, steps)? {
-                runs.insert(run)?;
+        for number in numbers {
+            if let Some(entry) = self.entries.get(*number) {
+                runs.insert(entry.run())?;
             }
         }
-        Ok(runs)
-    }
-
-    // The run of the entry that has a number, where an event meets it.
-    fn met_run<M: Matcher, L: Ledger>(
-        &self,
-        number: u64,
-        event: &Event,
-        matcher: &M,
-        steps: &mut Steps<L>,
-    ) -> Result<Option<u64>, Memory>
-        ensures met { IfOk result (λ o. o ≡ run_at E.condition_of E.run_of E.number_of
-            (M.is_true matcher.now) event.now self.now number) }
-        ensures asked { steps.new ≤ steps.old
-            + (if asks_at E.condition_of E.number_of event.now self.now number then 1 else 0) }
-    {
-        match self.entries.get(number) {
-            Some(entry) => {
-                if is_entry_met(entry, event, matcher, steps)? {
-                    Ok(Some(entry.run()))
-                } else {
-                    Ok(None)
-                }
-            }
-            None => Ok(None),
-        }
+        to_numbers(self.alloc, &runs)
     }
 
     /// The entry that has a number.

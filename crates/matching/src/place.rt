@@ -1,9 +1,8 @@
 // Where an index keeps its entries.
-ghost use Rattle.std.specs.Prelude.{◌≡◌, None, if◌then◌else◌};
-ghost use Rattle.std.specs.Option.{option_map, is_some};
+ghost use Rattle.std.specs.Prelude.{◌≡◌};
+ghost use Rattle.std.specs.Option.{option_map};
 ghost use Rattle.matching.specs.Places.{value_in, path_in};
 
-use expr::Expr;
 use kinds::Bucket;
 use lists::{Bytes, Items};
 use std::alloc::Global;
@@ -26,15 +25,5 @@ pub fn place_from(alloc: Global, name: Bytes, bucket: Option<Bucket>) -> (Field,
             (Field { name, path }, bucket.value)
         }
         None => (Field { name, path: None }, Bytes::new(alloc)),
-    }
-}
-
-/// The bucket, where there is a condition that it may spare.
-pub fn counted(cond: Option<Expr>, bucket: Option<Bucket>) -> Option<Bucket>
-    ensures { result ≡ (if is_some cond then bucket else None) }
-{
-    match cond {
-        Some(_) => bucket,
-        None => None,
     }
 }

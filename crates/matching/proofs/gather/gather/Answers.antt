@@ -1,4 +1,4 @@
-use Rattle.std.proofs.Common.{◌≡◌, sym, ◌∙◌, ap, subst, cond, true}
+use Rattle.std.proofs.Common.{◌∙◌, subst}
 use Rattle.matching.proofs.gather.gather.Goals as goal
 use Rattle.matching.proofs.Groups.{IsGathering, gathering_starts, gathering_on, gathering_stops, told_true, told_false}
 use Rattle.ordered.proofs.Listed.{at_flip}

@@ -1,4 +1,3 @@
-use Rattle.std.proofs.Common.{◌≡◌}
 use Rattle.matching.proofs.gather.gather.Given as goal
 use Rattle.matching.proofs.Groups.{IsGathering}
 

@@ -1,4 +1,4 @@
-use Rattle.std.proofs.Common.{◌≡◌, ◌∙◌, sym, subst}
+use Rattle.std.proofs.Common.{sym, subst}
 use Rattle.std.specs.Option.{option_copied}
 use Rattle.matching.specs.Places.{IsNext}
 use Rattle.matching.proofs.Scan.{next_none, next_some, next_other}

@@ -1,4 +1,4 @@
-use Rattle.std.proofs.Common.{◌≡◌, ◌∙◌, sym, ap, subst}
+use Rattle.std.proofs.Common.{◌∙◌, sym, ap, subst}
 use Rattle.std.specs.List.{find}
 use Rattle.lists.specs.Entries.{has, insert_by}
 use Rattle.matching.specs.Places.{place_of, place_cmp}

@@ -1,4 +1,4 @@
-use Rattle.std.proofs.Common.{◌≡◌, ◌∙◌, sym, ap, subst}
+use Rattle.std.proofs.Common.{◌∙◌, sym, subst}
 use Rattle.lists.specs.Entries.{has}
 use Rattle.lists.proofs.Keyed.{filter_none}
 use Rattle.matching.specs.Places.{place_of, place_cmp}

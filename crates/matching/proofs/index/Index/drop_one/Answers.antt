@@ -1,8 +1,7 @@
-use Rattle.std.proofs.Common.{◌≡◌, ◌∙◌, sym, ap, subst}
+use Rattle.std.proofs.Common.{◌∙◌, sym, ap}
 use Rattle.std.specs.List.{find}
 use Rattle.lists.specs.Entries.{has, without}
-use Rattle.matching.specs.Places.{place_of, place_cmp}
-use Rattle.ordered.specs.Indexes.{IsListed}
+use Rattle.matching.specs.Places.{place_of}
 use Rattle.ordered.proofs.Listed.{listed_removed}
 use Rattle.matching.proofs.Fields.{place_total}
 use Rattle.matching.proofs.index.Index.drop_one.Goals as goal

@@ -1,4 +1,4 @@
-use Rattle.std.proofs.Common.{◌≡◌, ◌≤◌, ◌+◌, ◌∙◌, sym, ap, subst}
+use Rattle.std.proofs.Common.{◌≡◌, ◌≤◌, ◌+◌, ◌∙◌, subst}
 use Rattle.lists.specs.Entries.{AreApart, IsInOrder}
 use Rattle.ordered.specs.Indexes.{IsListed}
 use Rattle.matching.specs.Places.{place_of, place_cmp}

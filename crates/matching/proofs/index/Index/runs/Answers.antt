@@ -1,44 +1,15 @@
-use Rattle.std.proofs.Common.{◌≡◌, ◌≤◌, ◌+◌, ◌∙◌, sym, ap, subst}
-use Rattle.lists.specs.Entries.{AreApart, IsInOrder, in_order}
+use Rattle.std.proofs.Common.{◌≡◌, ◌∙◌, ap}
+use Rattle.std.specs.List.{filter_map}
+use Rattle.lists.specs.Entries.{in_order}
 use Rattle.kinds.specs.Stores.{is_met}
-use Rattle.ordered.specs.Indexes.{IsListed}
-use Rattle.matching.specs.Places.{place_of, place_cmp}
-use Rattle.matching.specs.Met.{met_runs}
-use Rattle.matching.proofs.Meets.{if_ok, meets_near, asks_near}
-use Rattle.matching.proofs.Runs.{runs_near}
+use Rattle.matching.specs.Met.{met_runs, run_at}
+use Rattle.matching.proofs.Meets.{if_ok}
+use Rattle.matching.proofs.Runs.{runs_named}
 use Rattle.matching.proofs.index.Index.runs.Goals as goal
 
 pub returns-clause-met : goal.returns-clause-met
 returns-clause-met g c =
-    if_ok c.to_numbers.result _ (λ ns. ns ≡ met_runs g.E.Conditional.condition_of g.E.OfRun.run_of (g.M.Matcher.is_true c.args.matcher.now) c.args.event.now c.args.self.now)
-    (λ ns h. h ∙ c.in_ok-runs.ensures.met ∙ ap in_order (runs_near g.E.OfRun.run_of g.E.Ranked.number_of (λ e. is_met (g.M.Matcher.is_true c.args.matcher.now) c.args.event.now (g.E.Conditional.condition_of e)) c.args.self.now c.in_ok-near.near.keys
-    (subst (AreApart g.E.Ranked.number_of) c.self.view_is c.order.ensures.apart)
-    (meets_near g.E.Conditional.condition_of g.E.Ranked.rank_of g.E.Ranked.number_of (g.M.Matcher.is_true c.args.matcher.now) (g.M.PathMatcher.value_of c.args.matcher.now) c.args.event.now
-    c.args.self.now c.self.inside.places.keys c.in_ok-near.near.keys g.met.E.Conditional.by_number
-    (subst (IsInOrder g.E.Ranked.rank_of g.E.Ranked.number_of) c.self.view_is c.order.ensures.ordered)
-    (subst (AreApart g.E.Ranked.number_of) c.self.view_is c.order.ensures.apart)
-    (subst (λ es. IsListed place_cmp (λ e. place_of (g.E.Conditional.condition_of e)) g.E.Ranked.number_of es c.self.inside.places.keys) c.self.view_is c.self.invariant)
-    c.in_ok-runs.ensures.ordered c.in_ok-near.ensures c.requires.right)))
-    c.to_numbers.ensures
-
-pub returns-in_err-runs-clause-asked : goal.returns-in_err-runs-clause-asked
-returns-in_err-runs-clause-asked g c =
-    subst (λ n. c.pick_runs.new.steps ≤ c.args.steps.now + n)
-    (asks_near g.E.Conditional.condition_of g.E.Ranked.rank_of g.E.Ranked.number_of (g.M.Matcher.is_true c.args.matcher.now) (g.M.PathMatcher.value_of c.args.matcher.now) c.args.event.now
-    c.args.self.now c.self.inside.places.keys c.in_ok-near.near.keys g.met.E.Conditional.by_number
-    (subst (IsInOrder g.E.Ranked.rank_of g.E.Ranked.number_of) c.self.view_is c.order.ensures.ordered)
-    (subst (AreApart g.E.Ranked.number_of) c.self.view_is c.order.ensures.apart)
-    (subst (λ es. IsListed place_cmp (λ e. place_of (g.E.Conditional.condition_of e)) g.E.Ranked.number_of es c.self.inside.places.keys) c.self.view_is c.self.invariant)
-    c.pick_runs.ensures.ordered c.in_ok-near.ensures)
-    c.pick_runs.ensures.asked
-
-pub returns-clause-asked : goal.returns-clause-asked
-returns-clause-asked g c =
-    subst (λ n. c.pick_runs.new.steps ≤ c.args.steps.now + n)
-    (asks_near g.E.Conditional.condition_of g.E.Ranked.rank_of g.E.Ranked.number_of (g.M.Matcher.is_true c.args.matcher.now) (g.M.PathMatcher.value_of c.args.matcher.now) c.args.event.now
-    c.args.self.now c.self.inside.places.keys c.in_ok-near.near.keys g.met.E.Conditional.by_number
-    (subst (IsInOrder g.E.Ranked.rank_of g.E.Ranked.number_of) c.self.view_is c.order.ensures.ordered)
-    (subst (AreApart g.E.Ranked.number_of) c.self.view_is c.order.ensures.apart)
-    (subst (λ es. IsListed place_cmp (λ e. place_of (g.E.Conditional.condition_of e)) g.E.Ranked.number_of es c.self.inside.places.keys) c.self.view_is c.self.invariant)
-    c.pick_runs.ensures.ordered c.in_ok-near.ensures)
-    c.pick_runs.ensures.asked
+    if_ok c.runs_of.result _ (λ rs. rs ≡ met_runs g.E.Conditional.condition_of g.E.OfRun.run_of (g.M.Matcher.is_true c.args.matcher.now) c.args.event.now c.args.self.now)
+    (λ rs h. h ∙ ap (λ ns. in_order (filter_map (run_at g.E.OfRun.run_of g.E.Ranked.number_of c.args.self.now) ns)) (c.as_slice.ensures ∙ c.in_ok-met.ensures.met)
+    ∙ ap in_order (runs_named g.E.OfRun.run_of g.E.Ranked.number_of (λ e. is_met (g.M.Matcher.is_true c.args.matcher.now) c.args.event.now (g.E.Conditional.condition_of e)) c.args.self.now c.runs_of.ensures.apart))
+    c.runs_of.ensures.runs
