@@ -5,6 +5,3 @@
 mod rules;
 
 pub use rules::CancelRules;
-
-#[cfg(test)]
-mod tests;
