@@ -25,3 +25,4 @@ pub mod Seeking
 pub mod OneGrammar
 pub mod Delimited
 pub mod EqualTexts
+pub mod Loops

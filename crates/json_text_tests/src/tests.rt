@@ -365,6 +365,7 @@ fn units_of_root(tree: &Tree<'_>) -> Option<i128> {
 }
 
 /// How many bytes the values take of the members of this name.
+#[tactic(auto, using(json_text::proofs::Loops::name_in_loop, json_text::proofs::Loops::value_in_loop))]
 fn bytes_of(tree: &Tree<'_>, node: Node, text: &[u8]) -> usize
     requires { IsNodeOf tree.now node }
 {
@@ -377,10 +378,29 @@ fn bytes_of(tree: &Tree<'_>, node: Node, text: &[u8]) -> usize
     bytes
 }
 
+/// How many bytes the items of a list take.
+#[tactic(auto, using(json_text::proofs::Loops::node_in_loop))]
+fn bytes_in(tree: &Tree<'_>, list: Node) -> usize
+    requires { IsNodeOf tree.now list }
+{
+    let mut bytes: usize = 0;
+    for item in tree.items(list) {
+        bytes = bytes.saturating_add(tree.slice(item).len());
+    }
+    bytes
+}
+
 #[test]
 fn members_in_order(rt: HostRuntime) -> Result<(), Fail> {
     let tree = Tree::read(rt.alloc(), b"{\"a\":10,\"b\":200,\"\\u0061\":[]}")?;
     assert_eq!(&rt; bytes_of(&tree, tree.root(), b"a"), 4);
     assert_eq!(&rt; bytes_of(&tree, tree.root(), b"c"), 0);
+    Ok(())
+}
+
+#[test]
+fn items_in_order(rt: HostRuntime) -> Result<(), Fail> {
+    let tree = Tree::read(rt.alloc(), b"[10,\"bc\",[ ]]")?;
+    assert_eq!(&rt; bytes_in(&tree, tree.root()), 9);
     Ok(())
 }
