@@ -1,8 +1,6 @@
 -- The numbers that a test picks out of those that are looked at are those that it picks out of all entries.
-use Rattle.std.proofs.Common.{◌≡◌, ℕ, ◌==◌, Bool, true, false, cond, not, ◌&&◌, ◌||◌, List, [], ◌∷◌, filter, map, Option, Some, None, refl, sym, ap, ◌∙◌, arith, subst, eqb-true, find}
+use Rattle.std.proofs.Common.{◌≡◌, ℕ, ◌==◌, Bool, true, false, cond, ◌&&◌, ◌||◌, List, [], ◌∷◌, filter, map, Option, Some, None, refl, sym, ap, ◌∙◌, arith, subst, eqb-true, find}
 use Rattle.std.specs.Cmp.{IsTotalOrder}
-use Rattle.std.specs.Option.{is_some}
-use Rattle.std.specs.Str.{bytes_eq}
 use Rattle.std.specs.List.{list_any, AllByRecursion}
 use Rattle.std.specs.List.Sorted.{IsStrictlySortedBy}
 use Rattle.std.specs.BTreeMap.{is_at}
@@ -15,13 +13,12 @@ use Rattle.std.proofs.lemmas.List.Kept.{IsStrictlySortedBy-filter}
 use Rattle.std.proofs.lemmas.Map.Keys.{sorted_head, sorted_tail}
 use Rattle.std.proofs.lemmas.Map.Views.{any-filter_same}
 use Rattle.lists.specs.Entries.{has, key_of, pair_cmp, AreApart, IsInOrder}
-use Rattle.lists.proofs.Elements.{all-weaker}
 use Rattle.ordered.specs.Indexes.{group_cmp, has_part, IsListed}
 use Rattle.ordered.proofs.Listed.{group_at}
 use Rattle.ordered.proofs.Apart.{number_tells, at_number, found}
+use Rattle.ordered.proofs.Members.{same_at, same_members}
 use Rattle.matching.specs.Places.{has_number}
 use Rattle.matching.specs.Met.{passes}
-use Rattle.matching.proofs.Order.{any_none}
 
 both_ways : (a b : Bool) → (a ≡ true → b ≡ true) → (b ≡ true → a ≡ true) → a ≡ b
 both_ways true true f g = refl
@@ -29,57 +26,7 @@ both_ways true false f g = sym (f refl)
 both_ways false true f g = g refl
 both_ways false false f g = refl
 
--- ---- numbers in order are told by which are there
-
-at_self : (n : ℕ) → is_at (nat_cmp n) n ≡ true
-at_self n = at_number n n ∙ number_tells.self n
-
-not_above : (n k : ℕ) → nat_cmp n k ≡ Less → is_at (nat_cmp n) k ≡ false
-not_above n k h = ap is_eq h
-
-none_above : (x n : ℕ) (ys : List ℕ) → AllByRecursion (λ y. nat_cmp x y ≡ Less) ys → is_at (nat_cmp n) x ≡ true → has_number ys n ≡ false
-none_above x n ys h e = any_none (is_at (nat_cmp n)) ys (all-weaker (λ y. nat_cmp x y ≡ Less) (λ y. is_at (nat_cmp n) y ≡ false) ys (λ y l. not_above n y (ap (λ z. nat_cmp z y) (eqb-true n x (sym (at_number n x) ∙ e)) ∙ l)) h)
-
-or_left : (a b : Bool) → a ≡ false → (a || b) ≡ b
-or_left true b h = cc
-or_left false b h = refl
-
-same_tail : (x n : ℕ) (xs ys : List ℕ) → AllByRecursion (λ y. nat_cmp x y ≡ Less) xs → AllByRecursion (λ y. nat_cmp x y ≡ Less) ys → (is_at (nat_cmp n) x || has_number xs n) ≡ (is_at (nat_cmp n) x || has_number ys n) → has_number xs n ≡ has_number ys n
-same_tail x n xs ys a b h = by_head (is_at (nat_cmp n) x) refl
-  where
-    by_head : (c : Bool) → is_at (nat_cmp n) x ≡ c → has_number xs n ≡ has_number ys n
-    by_head true e = none_above x n xs a e ∙ sym (none_above x n ys b e)
-    by_head false e = sym (or_left (is_at (nat_cmp n) x) (has_number xs n) e) ∙ h ∙ or_left (is_at (nat_cmp n) x) (has_number ys n) e
-
-less_or : (x y : ℕ) → (is_at (nat_cmp x) y ≡ false) → (nat_cmp x y ≡ Less → ⊥) → nat_cmp y x ≡ Less
-less_or x y h k = grind (arith, nat_tests, h, k)
-
-below_all : (x y : ℕ) (ys : List ℕ) → nat_cmp x y ≡ Less → AllByRecursion (λ z. nat_cmp y z ≡ Less) ys → (is_at (nat_cmp x) y || has_number ys x) ≡ false
-below_all x y ys l h =
-    ap (λ b. b || has_number ys x) (not_above x y l)
-    ∙ any_none (is_at (nat_cmp x)) ys (all-weaker (λ z. nat_cmp y z ≡ Less) (λ z. is_at (nat_cmp x) z ≡ false) ys (λ z m. not_above x z (nat_cmp_total.trans x y z l m)) h)
-
-pub same_numbers : (xs ys : List ℕ) → IsStrictlySortedBy nat_cmp xs → IsStrictlySortedBy nat_cmp ys → ((n : ℕ) → has_number xs n ≡ has_number ys n) → xs ≡ ys
-same_numbers [] [] s t h = refl
-same_numbers [] (y ∷ ys) s t h = let no : false ≡ true = h y ∙ ap (λ b. b || has_number ys y) (at_self y) in cc
-same_numbers (x ∷ xs) [] s t h = let no : false ≡ true = sym (h x) ∙ ap (λ b. b || has_number xs x) (at_self x) in cc
-same_numbers (x ∷ xs) (y ∷ ys) s t h =
-    let first = heads in
-    ap (λ z. z ∷ xs) first ∙ ap (λ zs. y ∷ zs) (same_numbers xs ys (sorted_tail nat_cmp x xs s) (sorted_tail nat_cmp y ys t) (λ n. same_tail y n xs ys (subst (λ z. AllByRecursion (λ w. nat_cmp z w ≡ Less) xs) first (sorted_head nat_cmp x xs s)) (sorted_head nat_cmp y ys t) (ap (λ z. is_at (nat_cmp n) z || has_number xs n) (sym first) ∙ h n)))
-  where
-    heads : x ≡ y
-    heads = by_cmp (nat_cmp x y) refl
-      where
-        equal : nat_cmp x y ≡ Equal → x ≡ y
-        equal e = eqb-true x y (sym (at_number x y) ∙ ap is_eq e)
-
-        more : nat_cmp x y ≡ Greater → nat_cmp y x ≡ Less
-        more e = grind (arith, nat_tests, e)
-
-        by_cmp : (o : _) → nat_cmp x y ≡ o → x ≡ y
-        by_cmp Less e = let no : true ≡ false = sym (ap (λ b. b || has_number xs x) (at_self x)) ∙ h x ∙ below_all x y ys e (sorted_head nat_cmp y ys t) in cc
-        by_cmp Equal e = equal e
-        by_cmp Greater e = let no : true ≡ false = sym (ap (λ b. b || has_number ys y) (at_self y)) ∙ sym (h y) ∙ below_all y x xs (more e) (sorted_head nat_cmp x xs s) in cc
+-- ---- numbers in order
 
 none_sorted : IsStrictlySortedBy nat_cmp []
 unfolding IsStrictlySortedBy
@@ -147,8 +94,8 @@ module _ {X : Type 0} (rank number : X → ℕ) where
 module _ {X : Type 0} (rank number : X → ℕ) where
   pub picks : (p : X → Bool) (test : ℕ → Bool) (keys : List ℕ) (es : List X) → ((e : X) → rank e ≡ 0) → IsInOrder rank number es → AreApart number es → IsStrictlySortedBy nat_cmp keys
       → ((n : ℕ) → (test n && has_number keys n) ≡ passes p (find (has number n) es)) → filter test keys ≡ map number (filter p es)
-  picks p test keys es z o a s h = same_numbers (filter test keys) (map number (filter p es)) (IsStrictlySortedBy-filter nat_cmp test keys s) (by_number rank number p es z o)
-      (λ n. any-filter_same (is_at (nat_cmp n)) test (test n) (λ k e. ap test (sym (eqb-true n k (sym (at_number n k) ∙ e)))) keys ∙ h n ∙ sym (picked number p n es a))
+  picks p test keys es z o a s h = same_members nat_cmp_total same_at (filter test keys) (map number (filter p es)) (IsStrictlySortedBy-filter nat_cmp test keys s) (by_number rank number p es z o)
+      (λ n. any-filter_same (is_at (nat_cmp n)) test (test n) (λ k e. ap test (sym (same_at n k e))) keys ∙ h n ∙ sym (picked number p n es a))
 
 -- ---- a place of the index and its entry
 

@@ -4,3 +4,4 @@ pub mod Sorted
 pub mod Listed
 pub mod Least
 pub mod Kept
+pub mod Members

@@ -1,10 +1,9 @@
 -- Lists of numbers in order, which are told by the numbers that are in them.
 use Rattle.std.proofs.Common.{◌≡◌, ℕ, ◌==◌, Bool, true, false, cond, ◌&&◌, ◌||◌, List, [], ◌∷◌, map, filter, refl, sym, ap, ◌∙◌, arith, subst, eqb-true}
-use Rattle.std.specs.BTreeMap.{is_at}
 use Rattle.std.specs.BTreeSet.{insert_key}
-use Rattle.std.specs.List.{list_any, AllByRecursion}
+use Rattle.std.specs.List.{AllByRecursion}
 use Rattle.std.specs.List.Sorted.{IsStrictlySortedBy}
-use Rattle.std.specs.Ordering.{nat_cmp, match_ordering, is_eq}
+use Rattle.std.specs.Ordering.{nat_cmp, match_ordering}
 use Rattle.std.specs.declared.cmp.Ordering.{Ordering}
 use Rattle.std.specs.declared.cmp.Ordering.TheVariants.{Less, Equal, Greater}
 use Rattle.std.proofs.lemmas.Bool.Decides.{nat_tests}
@@ -12,6 +11,7 @@ use Rattle.std.proofs.lemmas.Cmp.{nat_cmp_total}
 use Rattle.std.proofs.lemmas.Map.Keys.{sorted_head, sorted_tail}
 use Rattle.lists.proofs.Elements.{all-weaker}
 use Rattle.lists.specs.Entries.{add_number, add_numbers, in_order, pair_cmp}
+pub use Rattle.ordered.proofs.Members.{same_numbers}
 use Rattle.runs.specs.Mentions.{mentions, numbers_of}
 use Rattle.runs.specs.Runs.{is_in}
 use Rattle.runs.proofs.Mentioned.{pair_at}
@@ -26,69 +26,6 @@ rises_none = tt
 pub rises_more : (n : ℕ) (ns : List ℕ) → AllByRecursion (λ m. nat_cmp n m ≡ Less) ns → Rises ns → Rises (n ∷ ns)
 unfolding IsStrictlySortedBy
 rises_more n ns a s = (a, s)
-
--- ---- one list
-
-same_self : (n : ℕ) → (n == n) ≡ true
-same_self n = grind (arith, nat_tests)
-
-not_below : (x n : ℕ) → nat_cmp x n ≡ Less → (x == n) ≡ false
-not_below x n h = grind (arith, nat_tests, h)
-
-not_above : (x n : ℕ) → nat_cmp n x ≡ Less → (x == n) ≡ false
-not_above x n h = grind (arith, nat_tests, h)
-
-none_in : (x : ℕ) (ns : List ℕ) → AllByRecursion (λ n. (x == n) ≡ false) ns → is_in x ns ≡ false
-none_in x [] h = refl
-none_in x (n ∷ ns) h = rw h.0 (none_in x ns h.1)
-
--- a number below all isn't there
-below_all : (x : ℕ) (ns : List ℕ) → AllByRecursion (λ n. nat_cmp x n ≡ Less) ns → is_in x ns ≡ false
-below_all x ns h = none_in x ns (all-weaker (λ n. nat_cmp x n ≡ Less) (λ n. (x == n) ≡ false) ns (λ n l. not_below x n l) h)
-
-or_left : (a b : Bool) → a ≡ false → (a || b) ≡ b
-or_left true b h = cc
-or_left false b h = refl
-
-same_tail : (x n : ℕ) (xs ys : List ℕ) → AllByRecursion (λ y. nat_cmp x y ≡ Less) xs → AllByRecursion (λ y. nat_cmp x y ≡ Less) ys
-    → (n == x || is_in n xs) ≡ (n == x || is_in n ys) → is_in n xs ≡ is_in n ys
-same_tail x n xs ys a b h = by_head (n == x) refl
-  where
-    gone : (zs : List ℕ) → AllByRecursion (λ y. nat_cmp x y ≡ Less) zs → (n == x) ≡ true → is_in n zs ≡ false
-    gone zs c e = ap (λ m. is_in m zs) (eqb-true n x e) ∙ below_all x zs c
-
-    by_head : (c : Bool) → (n == x) ≡ c → is_in n xs ≡ is_in n ys
-    by_head true e = gone xs a e ∙ sym (gone ys b e)
-    by_head false e = sym (or_left (n == x) (is_in n xs) e) ∙ h ∙ or_left (n == x) (is_in n ys) e
-
-pub same_numbers : (xs ys : List ℕ) → Rises xs → Rises ys → ((n : ℕ) → is_in n xs ≡ is_in n ys) → xs ≡ ys
-same_numbers [] [] s t h = refl
-same_numbers [] (y ∷ ys) s t h = let no : false ≡ true = h y ∙ ap (λ b. b || is_in y ys) (same_self y) in cc
-same_numbers (x ∷ xs) [] s t h = let no : false ≡ true = sym (h x) ∙ ap (λ b. b || is_in x xs) (same_self x) in cc
-same_numbers (x ∷ xs) (y ∷ ys) s t h =
-    let first = heads (nat_cmp x y) refl in
-    ap (λ z. z ∷ xs) first
-    ∙ ap (λ zs. y ∷ zs) (same_numbers xs ys (sorted_tail nat_cmp x xs s) (sorted_tail nat_cmp y ys t) (λ n. same_tail y n xs ys (subst (λ z. AllByRecursion (λ w. nat_cmp z w ≡ Less) xs) first above_x) above_y (ap (λ z. n == z || is_in n xs) (sym first) ∙ h n)))
-  where
-    above_x : AllByRecursion (λ w. nat_cmp x w ≡ Less) xs
-    above_x = sorted_head nat_cmp x xs s
-
-    above_y : AllByRecursion (λ w. nat_cmp y w ≡ Less) ys
-    above_y = sorted_head nat_cmp y ys t
-
-    lower : (a b : ℕ) (bs : List ℕ) → nat_cmp a b ≡ Less → AllByRecursion (λ w. nat_cmp b w ≡ Less) bs → (a == b || is_in a bs) ≡ false
-    lower a b bs l c = ap (λ r. r || is_in a bs) (not_below a b l) ∙ below_all a bs (all-weaker (λ w. nat_cmp b w ≡ Less) (λ w. nat_cmp a w ≡ Less) bs (λ w m. nat_cmp_total.trans a b w l m) c)
-
-    equal : nat_cmp x y ≡ Equal → x ≡ y
-    equal e = eqb-true x y (grind (arith, nat_tests, e))
-
-    more : nat_cmp x y ≡ Greater → nat_cmp y x ≡ Less
-    more e = grind (arith, nat_tests, e)
-
-    heads : (o : Ordering) → nat_cmp x y ≡ o → x ≡ y
-    heads Less e = let no : true ≡ false = sym (ap (λ b. b || is_in x xs) (same_self x)) ∙ h x ∙ lower x y ys e above_y in cc
-    heads Equal e = equal e
-    heads Greater e = let no : true ≡ false = sym (ap (λ b. b || is_in y ys) (same_self y)) ∙ sym (h y) ∙ lower y x xs (more e) above_x in cc
 
 -- ---- numbers that are put in order
 
