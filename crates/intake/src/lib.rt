@@ -7,6 +7,8 @@ mod events;
 mod fault;
 mod laws;
 mod members;
+mod place;
+mod placed;
 mod seen;
 mod timeline;
 mod window;
