@@ -87,7 +87,8 @@ over_documents event fresh = over event.value (option_map (λ d. d.value) fresh)
 
 abbrev pub events_code : Coded Events
 events_code =
-    code_by (Json × Option Json) (coded× json_code (coded_option json_code)) (λ e. (e.event, e.fresh)) (λ p. over p.0 p.1) (λ _. refl)
+    code_by (Json × Option Json) (coded× json_code (coded_option json_code))
+    (λ e. (e.event, e.fresh)) (λ p. over p.0 p.1) (λ _. refl)
 
 -- ---- answers
 

@@ -27,7 +27,8 @@ is_again functions entry = list_any (λ f. same f entry.function) functions
 -- Of the application's own functions those stay that it has again, and of other applications' those whose id it
 -- doesn't take over.
 abbrev pub stays : App → FunctionEntry → Bool
-stays app entry = if bytes_eq entry.app app.name then is_again app.functions entry else not (is_named app.functions entry)
+stays app entry =
+    if bytes_eq entry.app app.name then is_again app.functions entry else not (is_named app.functions entry)
 
 -- ---- what is new
 
@@ -45,7 +46,8 @@ new_in app entries = new_beside (filter (stays app) entries) app.name app.functi
 -- each function takes the next version
 abbrev pub numbered : List ℕ → ℕ → List Function → List FunctionEntry
 numbered name versions [] = []
-numbered name versions (f ∷ fs) = record { version = versions + 1; app = name; function = f } ∷ numbered name (versions + 1) fs
+numbered name versions (f ∷ fs) =
+    record { version = versions + 1; app = name; function = f } ∷ numbered name (versions + 1) fs
 
 -- the function takes a new version
 abbrev pub is_new : App → List FunctionEntry → Function → Bool

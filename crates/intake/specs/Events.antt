@@ -80,7 +80,8 @@ abbrev pub before_events : EventIn → Result (List EventIn) IntakeFault → Res
 before_events event (Ok events) = Ok (event ∷ events)
 before_events event (Err fault) = Err fault
 
-abbrev pub with_events : Result EventIn IntakeFault → Result (List EventIn) IntakeFault → Result (List EventIn) IntakeFault
+abbrev pub with_events : Result EventIn IntakeFault
+    → Result (List EventIn) IntakeFault → Result (List EventIn) IntakeFault
 with_events (Ok event) events = before_events event events
 with_events (Err fault) events = Err fault
 

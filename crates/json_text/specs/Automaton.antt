@@ -166,7 +166,9 @@ step_word w [] j f fs = state after (put j f) fs
 step_word w (c ∷ cs) j f fs = state (word w (c ∷ cs) j) f fs
 
 abbrev pub step_in : Mode → ℕ → Frame → List Frame → Option State
-step_in first b f fs = cond (is_space b) (Some (state first (with_byte b f) fs)) (cond (closes f.turn b) (close b f fs) (begin b f fs))
+step_in first b f fs =
+    cond (is_space b) (Some (state first (with_byte b f) fs))
+    (cond (closes f.turn b) (close b f fs) (begin b f fs))
 step_in next b f fs = cond (is_space b) (Some (state next (with_byte b f) fs)) (begin b f fs)
 step_in after b f fs = step_after b f fs
 step_in (text_at w) b f fs =

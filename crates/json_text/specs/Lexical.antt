@@ -38,7 +38,9 @@ IsSign w = (w ≡ []) ⊎ ((b : ℕ) × (w ≡ b ∷ []) × (is_sign b ≡ true)
 
 -- `exp = e [ minus / plus ] 1*DIGIT`
 abbrev pub IsExponent : List ℕ → Type 0
-IsExponent w = (mark : ℕ) × (sign : List ℕ) × (ds : List ℕ) × (w ≡ mark ∷ (sign ++ ds)) × (is_exponent_mark mark ≡ true) × IsSign sign × AreDigits ds
+IsExponent w =
+    (mark : ℕ) × (sign : List ℕ) × (ds : List ℕ) × (w ≡ mark ∷ (sign ++ ds))
+    × (is_exponent_mark mark ≡ true) × IsSign sign × AreDigits ds
 
 abbrev pub Maybe : (List ℕ → Type 0) → List ℕ → Type 0
 Maybe P w = (w ≡ []) ⊎ P w
@@ -128,7 +130,8 @@ characters =
     ∷ (backslash ∷ short_escape ∷ [])
     ∷ (backslash ∷ letter_u ∷ hex_not_d ∷ hex ∷ hex ∷ hex ∷ [])
     ∷ (backslash ∷ letter_u ∷ letter_d ∷ hex_0_to_7 ∷ hex ∷ hex ∷ [])
-    ∷ (backslash ∷ letter_u ∷ letter_d ∷ hex_8_to_b ∷ hex ∷ hex ∷ backslash ∷ letter_u ∷ letter_d ∷ hex_c_to_f ∷ hex ∷ hex ∷ [])
+    ∷ (backslash ∷ letter_u ∷ letter_d ∷ hex_8_to_b ∷ hex ∷ hex
+    ∷ backslash ∷ letter_u ∷ letter_d ∷ hex_c_to_f ∷ hex ∷ hex ∷ [])
     ∷ []
 
 -- the pattern is in the list

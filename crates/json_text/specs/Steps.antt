@@ -21,9 +21,12 @@ alternatives at.AfterEd = (((0x80, 0x9f) ∷ []) ∷ tail ∷ []) ∷ []
 alternatives at.AfterF0 = (((0x90, 0xbf) ∷ []) ∷ tail ∷ tail ∷ []) ∷ []
 alternatives at.AfterF4 = (((0x80, 0x8f) ∷ []) ∷ tail ∷ tail ∷ []) ∷ []
 alternatives at.Escape =
-    (short_escape ∷ []) ∷ (letter_u ∷ hex_not_d ∷ hex ∷ hex ∷ hex ∷ []) ∷ (letter_u ∷ letter_d ∷ hex_0_to_7 ∷ hex ∷ hex ∷ [])
+    (short_escape ∷ []) ∷ (letter_u ∷ hex_not_d ∷ hex ∷ hex ∷ hex ∷ [])
+    ∷ (letter_u ∷ letter_d ∷ hex_0_to_7 ∷ hex ∷ hex ∷ [])
     ∷ (letter_u ∷ letter_d ∷ hex_8_to_b ∷ hex ∷ hex ∷ backslash ∷ letter_u ∷ low) ∷ []
-alternatives at.Unit = (hex_not_d ∷ hex ∷ hex ∷ hex ∷ []) ∷ (letter_d ∷ hex_0_to_7 ∷ hex ∷ hex ∷ []) ∷ (letter_d ∷ hex_8_to_b ∷ hex ∷ hex ∷ backslash ∷ letter_u ∷ low) ∷ []
+alternatives at.Unit =
+    (hex_not_d ∷ hex ∷ hex ∷ hex ∷ []) ∷ (letter_d ∷ hex_0_to_7 ∷ hex ∷ hex ∷ [])
+    ∷ (letter_d ∷ hex_8_to_b ∷ hex ∷ hex ∷ backslash ∷ letter_u ∷ low) ∷ []
 alternatives at.AfterD = (hex_0_to_7 ∷ hex ∷ hex ∷ []) ∷ (hex_8_to_b ∷ hex ∷ hex ∷ backslash ∷ letter_u ∷ low) ∷ []
 alternatives at.Hex1 = (hex ∷ []) ∷ []
 alternatives at.Hex2 = (hex ∷ hex ∷ []) ∷ []
@@ -61,7 +64,9 @@ abbrev pub is_d : ℕ → Bool
 is_d b = (b == 0x44) || (b == 0x64)
 
 abbrev pub is_short : ℕ → Bool
-is_short b = (b == 0x22) || (b == 0x5c) || (b == 0x2f) || (b == 0x62) || (b == 0x66) || (b == 0x6e) || (b == 0x72) || (b == 0x74)
+is_short b =
+    (b == 0x22) || (b == 0x5c) || (b == 0x2f) || (b == 0x62)
+    || (b == 0x66) || (b == 0x6e) || (b == 0x72) || (b == 0x74)
 
 abbrev pub is_low_digit : ℕ → Bool
 is_low_digit b = in_range 0x43 0x46 b || in_range 0x63 0x66 b

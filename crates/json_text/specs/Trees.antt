@@ -100,7 +100,9 @@ same-document d = ap (λ (j : Json). record { source = d.source; value = j }) (v
 
 -- a text and its value are stored as the text and the value's nodes
 abbrev pub document_code : Coded Document
-document_code = code_by (List ℕ × List Piece) (coded× (coded_list coded_ℕ) (coded_list (coded× coded_ℕ (coded× coded_ℕ (coded_list coded_ℕ)))))
+document_code =
+    code_by (List ℕ × List Piece)
+    (coded× (coded_list coded_ℕ) (coded_list (coded× coded_ℕ (coded× coded_ℕ (coded_list coded_ℕ)))))
     (λ d. (d.source, pieces d.value)) document_from same-document
 
 abbrev pub piece_in : List ℕ → Entry → Piece

@@ -39,7 +39,8 @@ has_part cmp part p (Some e) = is_at (cmp p) (part e)
 -- A set has a part and the number of each entry.
 pub record IsListed {X K : Type 0} (cmp : K → K → Ordering) (part : X → K) (number : X → ℕ) (es : List X) (pairs : List (K × ℕ)) : Type 0 where
   pub apart : AreApart number es
-  pub listed : (p : K) (n : ℕ) → list_any (is_at (group_cmp cmp (p, n))) pairs ≡ has_part cmp part p (find (has number n) es)
+  pub listed : (p : K) (n : ℕ)
+      → list_any (is_at (group_cmp cmp (p, n))) pairs ≡ has_part cmp part p (find (has number n) es)
 
 -- An entry of a run was taken out.
 pub record IsTakenOf {X : Type 0} (part number : X → ℕ) (run : ℕ) (old : List X) (e : X) (new : List X) : Type 0 where

@@ -29,7 +29,8 @@ is_callable u = bytes_eq u.scheme (codes "http") && not (has_credentials u) && n
 
 -- where calls go; the fragment is dropped
 abbrev pub address_with : Parts → List ℕ → Address
-address_with u host = record { host = host; port = unwrap_or u.port default_port; path = u.path; query = unwrap_or u.query [] }
+address_with u host =
+    record { host = host; port = unwrap_or u.port default_port; path = u.path; query = unwrap_or u.query [] }
 
 abbrev pub address_of : Parts → Option (List ℕ) → Result Address Flaw
 address_of u None = Err Url
@@ -48,7 +49,8 @@ text_address None = Err Url
 text_address (Some text) = of_parsed (parse_url None text)
 
 abbrev pub url_in : Option Data → Option (List ℕ)
-url_in step = option_and_then as_str (option_and_then (part (codes "url")) (option_and_then (part (codes "runtime")) step))
+url_in step =
+    option_and_then as_str (option_and_then (part (codes "url")) (option_and_then (part (codes "runtime")) step))
 
 -- the address that `steps.step.runtime.url` names
 unfoldable pub address_in : Data → Result Address Flaw
