@@ -10,9 +10,6 @@ use kinds::Op;
 use lists::{Items, Memory};
 use std::alloc::Global;
 
-/// The least length of an operation, in bytes: a step that ran and gave nothing.
-const LEAST_OPERATION: usize = 64;
-
 /// Why values are no list of operations.
 #[derive(Drop)]
 pub(crate) enum OpsFault {
@@ -38,8 +35,7 @@ pub(crate) fn read_ops(alloc: Global, tree: &Tree<'_>, list: Node) -> Result<Ite
     requires { IsNodeOf tree.now list }
     ensures { OrStarved fault.Memory (ops_at tree.now (item_nodes tree.now list)) result }
 {
-    let room = tree.len(list).min(tree.slice(list).len() / LEAST_OPERATION);
-    let mut ops = Items::with_room(alloc, room)?;
+    let mut ops = Items::new(alloc);
     for node in tree.items(list) {
         if !push_operation(&mut ops, alloc, tree, node)? {
             return Err(OpsFault::NotValid {
