@@ -1,6 +1,6 @@
-//! The inputs that the generator of `replay` makes, and what they make of the documented machine. Stands on `kinds`,
-//! `cel_parse` and `run_model`, and promises that each input is the one that is defined. Laws say that each is accepted,
-//! and how many runs and calls there are in the end.
+//! The inputs that the generator of `replay` makes, and what they make of the documented machine. Stands
+//! on `kinds`, `cel_parse` and `run_model`, and promises that each input is the one that is defined. Laws
+//! say that each is accepted, and how many runs and calls there are in the end.
 #![tactic(auto)]
 
 mod app;

@@ -10,8 +10,8 @@ pub fn accepted_lines_go_on()
         (accepted_lines progress lines ≡ accepted_lines progress (take count lines) ++ more) }
 {}
 
-/// Of at most 100,000 events all inputs are taken, and the line of [`run_gen`](crate::run_gen) tells of three inputs, two
-/// calls and one run for each event, beside the registration, and of no run that is left.
+/// Of at most 100,000 events all inputs are taken, and the line of [`run_gen`](crate::run_gen) tells of three
+/// inputs, two calls and one run for each event, beside the registration, and of no run that is left.
 pub fn generated_lines_are_known()
     ensures { (n : ℕ) → n ≤ 100000 → IsKnownLine n }
 {
