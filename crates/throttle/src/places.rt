@@ -15,7 +15,8 @@ pub(crate) fn stand(
     cell: &Cell,
     place: Place,
 ) -> Result<(), Memory>
-    ensures ok { OnOk result (Changes place (Some (entry_of (cell.now, place))) entries.old.entries entries.new.entries) }
+    ensures ok { OnOk result
+        (Changes place (Some (entry_of (cell.now, place))) entries.old.entries entries.new.entries) }
     ensures err { OnErr result (entries.new.entries ≡ entries.old.entries) }
 {
     let entry = StartEntry {
