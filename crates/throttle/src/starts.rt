@@ -147,12 +147,12 @@ impl Starts {
         match settle(&mut self.places, cell, place) {
             Ok(Some(left)) => {
                 leave(&mut self.entries, left);
-                return Ok(());
+                Ok(())
             }
-            Ok(None) => return Ok(()),
+            Ok(None) => Ok(()),
             Err(_) => {
                 leave(&mut self.entries, place);
-                return Err(Memory);
+                Err(Memory)
             }
         }
     }
