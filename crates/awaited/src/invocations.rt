@@ -52,7 +52,8 @@ impl Invocations {
 
     /// Adds an invocation whose number is above all.
     pub fn add(&mut self, invocation: Invocation) -> Result<(), Memory>
-        requires below { AllByRecursion (λ e. invocation_number e < invocation_number invocation) self.old }
+        requires below { AllByRecursion
+            (λ e. invocation_number e < invocation_number invocation) self.old }
         ensures ok { OnOk result (self.new ≡ self.old ++ invocation ∷ []) }
         ensures err { OnErr result (self.new ≡ self.old) }
     {

@@ -102,7 +102,8 @@ impl Rules {
     ) -> Result<Numbers, Memory>
         requires right { AreBucketsRight rule_condition (M.is_true matcher.now) (M.value_of matcher.now)
             event.now self.now }
-        ensures cancelled { IfOk result (λ rs. rs ≡ cancelled (M.is_true matcher.now) event.now self.now) }
+        ensures cancelled { IfOk result
+            (λ rs. rs ≡ cancelled (M.is_true matcher.now) event.now self.now) }
         ensures asked { steps.new ≤ steps.old
             + asked_count rule_condition (M.value_of matcher.now) event.now self.now }
     {

@@ -75,7 +75,8 @@ impl Waits {
 
     /// The step of the wait that has a number.
     pub fn get(&self, number: u64) -> Option<&WaitStep>
-        ensures { option_copied result ≡ option_map wait_step (find (has waiting_number number) self.now) }
+        ensures { option_copied result
+            ≡ option_map wait_step (find (has waiting_number number) self.now) }
     {
         self.steps.get(number)
     }

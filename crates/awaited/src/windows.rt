@@ -65,7 +65,8 @@ impl WindowSet {
         requires room { has_room rule.now (find (is_of version value.now) self.old) ≡ true }
         requires rule { IsRule rule.now }
         requires moment { t ≤ last_moment }
-        ensures answer { IfOk result (λ a. a ≡ placed_as rule.now (find (is_of version value.now) self.old)
+        ensures answer { IfOk result
+            (λ a. a ≡ placed_as rule.now (find (is_of version value.now) self.old)
             (window_after rule.now version value.now event t number self.old)) }
         ensures ok { OnOk result
             (self.new ≡ after_offer rule.now version value.now event t number self.old) }
@@ -127,7 +128,8 @@ impl WindowSet {
 
     /// The least due, with the window's number; of those that tie the one of the least number. The run is 0.
     pub fn first(&self) -> Option<Due>
-        ensures least { result ≡ option_map (as_due number_of no_run) (least_due window_due number_of self.now) }
+        ensures least { result
+            ≡ option_map (as_due number_of no_run) (least_due window_due number_of self.now) }
         ensures apart { AreApart number_of self.now }
     {
         self.names.first()

@@ -16,7 +16,8 @@ use Rattle.cel_eval.specs.declared.value.Value.TheVariants as value
 
 -- a value is stored as a text without a source
 abbrev pub json_code : Coded Json
-json_code = code_by Document document_code (λ j. record { source = []; value = j }) (λ d. d.value) (λ _. refl)
+json_code =
+    code_by Document document_code (λ j. record { source = []; value = j }) (λ d. d.value) (λ _. refl)
 
 -- A list is one of an event's text, or one that the expression writes out. An object is one of an event's text.
 mutual
@@ -87,7 +88,8 @@ over_documents event fresh = over event.value (option_map (λ d. d.value) fresh)
 
 abbrev pub events_code : Coded Events
 events_code =
-    code_by (Json × Option Json) (coded× json_code (coded_option json_code)) (λ e. (e.event, e.fresh)) (λ p. over p.0 p.1) (λ _. refl)
+    code_by (Json × Option Json) (coded× json_code (coded_option json_code)) (λ e. (e.event, e.fresh))
+    (λ p. over p.0 p.1) (λ _. refl)
 
 -- ---- answers
 

@@ -36,5 +36,6 @@ Gives exact (Err e) = (exact ≡ Err e) ⊎ (e ≡ fault.Memory)
 abbrev pub GivesOf : (Outcome → Outcome) → Result Operand EvalFault → Result Operand EvalFault → Type 0
 GivesOf f part whole = (exact : Outcome) → Gives exact part → Gives (f exact) whole
 
-abbrev pub GivesOfTwo : (Outcome → Outcome → Outcome) → Result Operand EvalFault → Result Operand EvalFault → Result Operand EvalFault → Type 0
+abbrev pub GivesOfTwo : (Outcome → Outcome → Outcome) → Result Operand EvalFault
+    → Result Operand EvalFault → Result Operand EvalFault → Type 0
 GivesOfTwo f left right whole = (l r : Outcome) → Gives l left → Gives r right → Gives (f l r) whole

@@ -186,7 +186,8 @@ test_texts method.EndsWith s t = ends_with nat_eq s t
 test_texts method.Contains s t = stands_in s t
 
 abbrev pub text_method : Method → Datum → Datum → Outcome
-text_method m d e = of_two (text_in d) (text_in e) (λ s t. Ok (boolean (test_texts m s t))) (Err fault.BadType)
+text_method m d e =
+    of_two (text_in d) (text_in e) (λ s t. Ok (boolean (test_texts m s t))) (Err fault.BadType)
 
 -- ---- order and equality
 
@@ -222,7 +223,8 @@ are_nested d e = (is_list d && is_list e) || (is_object d && is_object e)
 -- whether they are equal or not is as `wanted`
 abbrev pub compare_equal : Bool → Datum → Datum → Outcome
 compare_equal wanted d e =
-    if are_nested d e then if_fit d e (same_bool wanted (equal d e)) else Ok (boolean (same_bool wanted (equal d e)))
+    if are_nested d e then if_fit d e (same_bool wanted (equal d e))
+    else Ok (boolean (same_bool wanted (equal d e)))
 
 -- the name of a member
 abbrev pub named : Option (List ℕ) → Json → Outcome

@@ -30,7 +30,8 @@ pub fn eval<L: Ledger>(
     fresh: Option<&Tree<'_>>,
     steps: &mut Steps<L>,
 ) -> Result<Value, EvalFault>
-    ensures value { OrStarved fault.Memory (evaluated expr.now event.now (option_copied fresh.entry)) result }
+    ensures value { OrStarved fault.Memory
+        (evaluated expr.now event.now (option_copied fresh.entry)) result }
     ensures units { IfOk result IsInUnits }
     ensures once { steps.new ≡ steps.old + 1 }
 {

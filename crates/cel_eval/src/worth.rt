@@ -74,7 +74,8 @@ fn list<'t, 'a>(
     items: &'t Vec<Term>,
     scope: &Scope<'t, 'a>,
 ) -> Result<Operand<'t, 'a>, EvalFault>
-    ensures { Gives (then_all (all_worth (trees_of items.now.items) scope.now) (λ ds. Ok (written ds))) result }
+    ensures { Gives
+        (then_all (all_worth (trees_of items.now.items) scope.now) (λ ds. Ok (written ds))) result }
 {
     let mut values = Vec::new(alloc);
     for item in items {

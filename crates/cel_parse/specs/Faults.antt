@@ -17,7 +17,8 @@ abbrev pub refused_place : ℕ → State → Placed → ℕ
 refused_place whole (want fs) p = unclosed_or whole p.start p.token
 refused_place whole _ p = p.start
 
-abbrev pub walk_on : ℕ → State → Placed → Step → (State → Result Tree ParseFault) → Result Tree ParseFault
+abbrev pub walk_on : ℕ → State → Placed → Step → (State → Result Tree ParseFault)
+    → Result Tree ParseFault
 walk_on whole s p (goes next) on = on next
 walk_on whole s p refused on = Err (Syntax (refused_place whole s p))
 walk_on whole s p too_deep on = Err (TooDeep p.start)

@@ -58,7 +58,8 @@ abbrev mutual
   spell (index a b) = spell a ++ square_open ∷ (spell b ++ square_close ∷ [])
   spell (has a f) = word (codes "has") ∷ round_open ∷ (spell a ++ dot ∷ word f ∷ round_close ∷ [])
   spell (call f a) = word (function_name f) ∷ round_open ∷ (spell a ++ round_close ∷ [])
-  spell (method m a b) = spell a ++ dot ∷ word (method_name m) ∷ round_open ∷ (spell b ++ round_close ∷ [])
+  spell (method m a b) =
+      spell a ++ dot ∷ word (method_name m) ∷ round_open ∷ (spell b ++ round_close ∷ [])
   spell (signed s a) = sign_token s ∷ spell a
   spell (binary o a b) = spell a ++ operator_token o ∷ spell b
   spell (choice c a b) = spell c ++ question ∷ (spell a ++ colon ∷ spell b)

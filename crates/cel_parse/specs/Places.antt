@@ -22,7 +22,9 @@ TakesString front = Begins (map token_of front ++ quoted [] ∷ [])
 
 -- where a token begins, but for a string that may stand there and isn't closed: that is a fault at the end of the text
 abbrev pub IsPlace : ℕ → List Placed → Placed → ℕ → Type 0
-IsPlace whole front p place = ((place ≡ p.start) × (p.token ≡ unclosed → TakesString front → ⊥)) ⊎ ((place ≡ whole) × (p.token ≡ unclosed) × TakesString front)
+IsPlace whole front p place =
+    ((place ≡ p.start) × (p.token ≡ unclosed → TakesString front → ⊥))
+    ⊎ ((place ≡ whole) × (p.token ≡ unclosed) × TakesString front)
 
 -- the first token with which no expression goes on, however deep
 pub record StopsAt (whole : ℕ) (ps : List Placed) (place : ℕ) : Type 0 where

@@ -125,7 +125,8 @@ take_callable os c token.round_open = begin_call os c
 take_callable os c t = take_behind os t
 
 abbrev pub take_name : ℕ → List Shape → Token → Taken
-take_name start os (token.word w) = takes None os (seat.Callable (callee_at start (is_some (method_of w))))
+take_name start os (token.word w) =
+    takes None os (seat.Callable (callee_at start (is_some (method_of w))))
 take_name start os _ = stops
 
 -- ---- all tokens

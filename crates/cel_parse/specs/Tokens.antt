@@ -29,7 +29,8 @@ placed_of p = record { start = p.start; token = token_of p.token }
 
 -- what is next in the rest of a text of this length, and what is left behind it
 pub record IsNext (whole : ℕ) (bytes : List ℕ) (p : Placed) (rest : List ℕ) : Type 0 where
-  pub first : (on : List ℕ → List t.Placed) → placed_at whole (behind_spaces bytes) on ≡ placed_of p ∷ on rest
+  pub first : (on : List ℕ → List t.Placed)
+      → placed_at whole (behind_spaces bytes) on ≡ placed_of p ∷ on rest
   pub shorter : length rest + 1 ≤ length bytes
 
 -- a digit follows a zero at the front

@@ -46,7 +46,8 @@ pub fn read_string<'a>(
     quote: u8,
     bytes: &'a [u8],
 ) -> Result<(End, &'a [u8]), Memory>
-    ensures { IfOk result (λ r. cut_string quote value.old plain bytes.now ≡ end_of r.0 value.new r.1.now) }
+    ensures { IfOk result
+        (λ r. cut_string quote value.old plain bytes.now ≡ end_of r.0 value.new r.1.now) }
 {
     let mut within = Within::Plain;
     let mut rest = bytes;

@@ -355,7 +355,8 @@ fn question(alloc: Global, stack: &mut Stack, tree: Term) -> Result<Place, Refus
 }
 
 fn begin_method(stack: &mut Stack, tree: Term) -> Result<Place, Refusal>
-    ensures { Answers (open_in stack.new) (begin_method deepest (open_in stack.old) (tree_of tree)) result }
+    ensures { Answers (open_in stack.new)
+        (begin_method deepest (open_in stack.old) (tree_of tree)) result }
 {
     let Term::Member(of, name) = tree else {
         return Err(Refusal::Syntax);

@@ -23,7 +23,8 @@ after_offer rule version value event t number windows =
 
 abbrev pub StandsAt : Window → List Window → Type 0
 StandsAt window windows =
-    option_map place_of (find (is_of (version_of window) (value_of window)) windows) ≡ Some (place_of window)
+    option_map place_of (find (is_of (version_of window) (value_of window)) windows)
+    ≡ Some (place_of window)
 
 abbrev pub replaced : Window → List Window → List Window
 replaced window windows = insert_window window (others (version_of window) (value_of window) windows)

@@ -182,7 +182,8 @@ fn take(windows: &mut BTreeMap<(u64, u64), Held>, number: u64) -> Option<Held>
     requires sorted { IsSorted kind_of number_of windows.old.entries }
     requires apart { AreApart number_of (values_of windows.old.entries) }
     ensures value { result ≡ find (has_number number) (values_of windows.old.entries) }
-    ensures left { values_of windows.new.entries ≡ without_number number (values_of windows.old.entries) }
+    ensures left { values_of windows.new.entries
+        ≡ without_number number (values_of windows.old.entries) }
     ensures sorted { IsSorted kind_of number_of windows.new.entries }
 {
     match windows.remove(&(DEBOUNCE, number)) {

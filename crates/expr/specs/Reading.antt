@@ -98,7 +98,8 @@ pub data State : Type 0 where
 -- puts together what binds at least as strong
 abbrev pub reduce : ℕ → List Frame → Tree → Held
 reduce r [] t = held [] t
-reduce r (left o a ∷ fs) t = cond (nat_le r (rank_of o)) (reduce r fs (binary o a t)) (held (left o a ∷ fs) t)
+reduce r (left o a ∷ fs) t =
+    cond (nat_le r (rank_of o)) (reduce r fs (binary o a t)) (held (left o a ∷ fs) t)
 reduce r (prefix s ∷ fs) t = cond (nat_le r 6) (reduce r fs (signed s t)) (held (prefix s ∷ fs) t)
 reduce r (either c a ∷ fs) t = cond (nat_le r 0) (reduce r fs (choice c a t)) (held (either c a ∷ fs) t)
 reduce r (test c ∷ fs) t = held (test c ∷ fs) t

@@ -50,14 +50,16 @@ behind_number bytes = behind_fraction (fraction_of (behind_digits bytes)) (behin
 -- leading zeros change nothing
 abbrev pub without_zeros : List ℕ → List ℕ
 without_zeros [] = []
-without_zeros (d ∷ ds) = if (d == 48) && is_ascii_digit (slice_index ds 0) then without_zeros ds else d ∷ ds
+without_zeros (d ∷ ds) =
+    if (d == 48) && is_ascii_digit (slice_index ds 0) then without_zeros ds else d ∷ ds
 
 abbrev pub number_token : Result ℤ NumFault → Token
 number_token (Ok units) = number units
 number_token (Err fault) = wrong
 
 abbrev pub cut_number : List ℕ → List ℕ → Cut
-cut_number bytes rest = cut (number_token (units_of (without_zeros (take (length bytes - length rest) bytes)))) rest
+cut_number bytes rest =
+    cut (number_token (units_of (without_zeros (take (length bytes - length rest) bytes)))) rest
 
 -- ---- names: a letter or `_` (95), then letters, digits and `_`
 
@@ -114,9 +116,11 @@ coded_byte left code =
     else fails
 
 abbrev pub next_byte : ℕ → Within → ℕ → Byte
-next_byte quote plain c = if c == quote then ends else if c == 92 then goes [] escaped else goes (c ∷ []) plain
+next_byte quote plain c =
+    if c == quote then ends else if c == 92 then goes [] escaped else goes (c ∷ []) plain
 next_byte quote escaped c = short_escape c
-next_byte quote (coded left code) c = if is_ascii_hexdigit c then coded_byte left (last_four code c) else fails
+next_byte quote (coded left code) c =
+    if is_ascii_hexdigit c then coded_byte left (last_four code c) else fails
 
 abbrev pub cut_behind : List ℕ → List ℕ → Byte → (List ℕ → Within → Cut) → Cut
 cut_behind value cs (goes more within) on = on (value ++ more) within
@@ -125,7 +129,8 @@ cut_behind value cs fails on = cut wrong []
 
 abbrev pub cut_string : ℕ → List ℕ → Within → List ℕ → Cut
 cut_string quote value within [] = cut unclosed []
-cut_string quote value within (c ∷ cs) = cut_behind value cs (next_byte quote within c) (λ longer next. cut_string quote longer next cs)
+cut_string quote value within (c ∷ cs) =
+    cut_behind value cs (next_byte quote within c) (λ longer next. cut_string quote longer next cs)
 
 -- ---- signs
 

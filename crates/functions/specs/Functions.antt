@@ -27,13 +27,16 @@ is_again functions entry = list_any (λ f. same f entry.function) functions
 -- Of the application's own functions those stay that it has again, and of other applications' those whose id it
 -- doesn't take over.
 abbrev pub stays : App → FunctionEntry → Bool
-stays app entry = if bytes_eq entry.app app.name then is_again app.functions entry else not (is_named app.functions entry)
+stays app entry =
+    if bytes_eq entry.app app.name then is_again app.functions entry
+    else not (is_named app.functions entry)
 
 -- ---- what is new
 
 -- the application's very function is one of these
 abbrev pub is_known : List ℕ → List FunctionEntry → Function → Bool
-is_known name entries f = list_any (λ (e : FunctionEntry). bytes_eq e.app name && same f e.function) entries
+is_known name entries f =
+    list_any (λ (e : FunctionEntry). bytes_eq e.app name && same f e.function) entries
 
 -- the functions that none of those that stay is, in order
 abbrev pub new_beside : List FunctionEntry → List ℕ → List Function → List Function
@@ -59,7 +62,8 @@ stands_for app f e = stays app e && (bytes_eq e.app app.name && same f e.functio
 
 -- the current functions after a registration, where so many versions were given before
 unfoldable pub registered : App → ℕ → List FunctionEntry → List FunctionEntry
-registered app versions entries = filter (stays app) entries ++ numbered app.name versions (new_in app entries)
+registered app versions entries =
+    filter (stays app) entries ++ numbered app.name versions (new_in app entries)
 
 -- how many there are then
 abbrev pub current_after : App → List FunctionEntry → ℕ

@@ -142,7 +142,8 @@ impl Functions {
     // Parts those that stay from those that don't.
     fn sort(self, alloc: Global, app: &App) -> Result<Sorted, Memory>
         ensures kept { IfOk result (λ sorted. sorted.kept ≡ filter (stays app.now) self) }
-        ensures replaced { IfOk result (λ sorted. sorted.replaced ≡ filter (λ f. not (stays app.now f)) self) }
+        ensures replaced { IfOk result
+            (λ sorted. sorted.replaced ≡ filter (λ f. not (stays app.now f)) self) }
     {
         let mut kept = Items::new(alloc);
         let mut replaced = Items::new(alloc);

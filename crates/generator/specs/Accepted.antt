@@ -33,7 +33,8 @@ AcceptsReply n s = AcceptsAny s (next_reply (10 * n) n s)
 pub record AreAccepted (n : ℕ) : Type 0 where
   pub registration_first : Accepts (empty shipped) registration
   pub events : (i : ℕ) → i < n → AcceptsEvent n (suc i) (after_events n i registered)
-  pub replies : (count : ℕ) → AcceptsReply n (after_replies (10 * n) n count (after_events n n registered))
+  pub replies : (count : ℕ)
+      → AcceptsReply n (after_replies (10 * n) n count (after_events n n registered))
 
 -- so many inputs were taken, no run is left, and no call is open
 pub record HasEnded (n : ℕ) (s : State) : Type 0 where

@@ -76,7 +76,8 @@ step_reply i = record {
   status = 206;
   no_retry = None;
   retry = None;
-  body = codes "[{\"id\":\"" ++ step ++ codes "\",\"op\":\"StepRun\",\"data\":" ++ decimal i ++ codes "}]";
+  body =
+      codes "[{\"id\":\"" ++ step ++ codes "\",\"op\":\"StepRun\",\"data\":" ++ decimal i ++ codes "}]";
 }
 
 -- the function has ended

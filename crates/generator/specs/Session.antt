@@ -11,7 +11,8 @@ use Rattle.generator.specs.Inputs.{drawn, event_input, registration, reply_input
 
 -- the reply to the first open call, where one is open, at a moment and with the number of the last event
 abbrev pub next_reply : ℕ → ℕ → State → Option Input
-next_reply at i s = option_map (λ (o : Issue). reply_input at o.call (has_results s o) i) (first_open s.issues)
+next_reply at i s =
+    option_map (λ (o : Issue). reply_input at o.call (has_results s o) i) (first_open s.issues)
 
 abbrev pub after_input : State → Input → State
 after_input s input = (machine.step s input).state
@@ -39,4 +40,5 @@ after_replies at i (suc count) s = after_replies at i count (after_reply at i s)
 
 -- the state at the end
 abbrev pub generated : ℕ → State
-generated n = after_replies (10 * n) n (2 * n) (after_events n n (after_input (empty shipped) registration))
+generated n =
+    after_replies (10 * n) n (2 * n) (after_events n n (after_input (empty shipped) registration))

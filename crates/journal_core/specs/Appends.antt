@@ -29,7 +29,8 @@ pub record IsTorn (payload bytes image : List ℕ) : Type 0 where
 -- a moment of an append that began at the old one
 pub record IsWithinAppend (payload : List ℕ) (old moment : Moment) : Type 0 where
   pub elsewhere : IsElsewhereSame old moment
-  pub images : (image : List ℕ) → IsImage (file_of A moment.disk) image → IsTorn payload (reads_of A old) image
+  pub images : (image : List ℕ) → IsImage (file_of A moment.disk) image
+      → IsTorn payload (reads_of A old) image
 
 -- The file reads as before, or has the payload's record behind that, and is whole records in both
 -- cases.
@@ -45,13 +46,15 @@ pub record IsAppended {T E : Type 0} (steady : Type 0) (payload : List ℕ)
   pub steps : Since (IsWithinAppend payload old.now) old new
   pub left : IsWithinAppend payload old.now new.now
   pub kept : OnOk result (file_of A new.now.disk ≡ settled (reads_of A old.now ++ spelled payload))
-  pub stands : OnOk result (payloads_of (reads_of A new.now) ≡ payloads_of (reads_of A old.now) ++ payload ∷ [])
+  pub stands : OnOk result
+      (payloads_of (reads_of A new.now) ≡ payloads_of (reads_of A old.now) ++ payload ∷ [])
   pub whole : OnErr result (steady → IsBeforeOrAfter payload (reads_of A old.now) (reads_of A new.now))
 
 -- a moment of an opening
 pub record IsWithinOpening (old moment : Moment) : Type 0 where
   pub elsewhere : IsElsewhereSame old moment
-  pub images : (image : List ℕ) → IsImage (file_of A moment.disk) image → IsImage (file_of A old.disk) image
+  pub images : (image : List ℕ) → IsImage (file_of A moment.disk) image
+      → IsImage (file_of A old.disk) image
 
 -- The empty file is on the disk. A call that failed leaves a moment of the opening, and of a steady rig
 -- the file as it was.

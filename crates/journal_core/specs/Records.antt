@@ -19,7 +19,8 @@ first_length bytes = from_be_bytes w32 (take 4 bytes)
 abbrev pub begins_whole : List ℕ → Bool
 begins_whole bytes =
     let first = first_length bytes in
-    nat_le 4 (length bytes) && (nat_le 1 first && (nat_le first greatest && nat_le (4 + first) (length bytes)))
+    nat_le 4 (length bytes)
+    && (nat_le 1 first && (nat_le first greatest && nat_le (4 + first) (length bytes)))
 
 abbrev pub first_payload : List ℕ → List ℕ
 first_payload bytes = take (first_length bytes) (drop 4 bytes)

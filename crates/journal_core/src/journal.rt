@@ -92,7 +92,8 @@ impl Journal {
         requires some { 0 < length payload.now }
         requires fits { length payload.now ≤ greatest }
         requires ready { WhereTold R.tells rig.old (IsReady self) }
-        ensures told { GoesOn R.tells rig.old rig.new (IsAppended (R.steady rig.old) payload.now result) }
+        ensures told { GoesOn R.tells rig.old rig.new
+            (IsAppended (R.steady rig.old) payload.now result) }
         ensures ready { IfOk result (λ journal. WhereTold R.tells rig.new (IsReady journal)) }
         ensures tells { StillTells R.tells rig.old rig.new }
         ensures steady { R.steady rig.old → R.steady rig.new }

@@ -21,8 +21,10 @@ next_stage stage.Minus b = from_minus b
 next_stage stage.Zero b = from_whole b
 next_stage stage.Whole b = cond (is_digit b) (Some stage.Whole) (from_whole b)
 next_stage stage.Point b = cond (is_digit b) (Some stage.Fraction) None
-next_stage stage.Fraction b = cond (is_digit b) (Some stage.Fraction) (cond (is_exponent_mark b) (Some stage.Mark) None)
-next_stage stage.Mark b = cond (is_sign b) (Some stage.Sign) (cond (is_digit b) (Some stage.Exponent) None)
+next_stage stage.Fraction b =
+    cond (is_digit b) (Some stage.Fraction) (cond (is_exponent_mark b) (Some stage.Mark) None)
+next_stage stage.Mark b =
+    cond (is_sign b) (Some stage.Sign) (cond (is_digit b) (Some stage.Exponent) None)
 next_stage stage.Sign b = cond (is_digit b) (Some stage.Exponent) None
 next_stage stage.Exponent b = cond (is_digit b) (Some stage.Exponent) None
 
@@ -155,7 +157,8 @@ step_after b f fs =
 
 abbrev pub step_character : List ℕ → List Pattern → Frame → List Frame → Option State
 step_character w [] f fs = None
-step_character w (p ∷ ps) f fs = Some (state (cond (has_ended (p ∷ ps)) (text_at w) (character w (p ∷ ps))) f fs)
+step_character w (p ∷ ps) f fs =
+    Some (state (cond (has_ended (p ∷ ps)) (text_at w) (character w (p ∷ ps))) f fs)
 
 abbrev pub step_numeral : ℕ → List ℕ → Stage → Option Stage → Frame → List Frame → Option State
 step_numeral b w s (Some t) f fs = Some (state (numeral (w ++ b ∷ []) t) f fs)
@@ -166,7 +169,9 @@ step_word w [] j f fs = state after (put j f) fs
 step_word w (c ∷ cs) j f fs = state (word w (c ∷ cs) j) f fs
 
 abbrev pub step_in : Mode → ℕ → Frame → List Frame → Option State
-step_in first b f fs = cond (is_space b) (Some (state first (with_byte b f) fs)) (cond (closes f.turn b) (close b f fs) (begin b f fs))
+step_in first b f fs =
+    cond (is_space b) (Some (state first (with_byte b f) fs))
+    (cond (closes f.turn b) (close b f fs) (begin b f fs))
 step_in next b f fs = cond (is_space b) (Some (state next (with_byte b f) fs)) (begin b f fs)
 step_in after b f fs = step_after b f fs
 step_in (text_at w) b f fs =
@@ -207,4 +212,5 @@ value_of s = elim s.mode [
 -- the state behind these bytes, where each can stand and no more than `limit` brackets are ever open
 unfoldable pub run : ℕ → List ℕ → State → Option State
 run limit [] s = Some s
-run limit (b ∷ bs) s = option_and_then (λ t. cond (nat_le (length t.below) limit) (run limit bs t) None) (step s b)
+run limit (b ∷ bs) s =
+    option_and_then (λ t. cond (nat_le (length t.below) limit) (run limit bs t) None) (step s b)

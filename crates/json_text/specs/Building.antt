@@ -19,7 +19,9 @@ ended_entry e count stop next = record e { count = count; stop = stop; next = ne
 
 -- the bracket b with one more part
 abbrev pub AddsPart : Bracket → Bracket → Type 0
-AddsPart old new = (new.entry ≡ old.entry) × ((t : Turn) (js : Parts) (j : Json) → IsBracket old t js → IsBracket new (following t) (snoc js j))
+AddsPart old new =
+    (new.entry ≡ old.entry)
+    × ((t : Turn) (js : Parts) (j : Json) → IsBracket old t js → IsBracket new (following t) (snoc js j))
 
 abbrev pub Lies : List ℕ → Builder → Turn → Parts → List Frame → Type 0
 Lies w b t js fs = Laid w b.nodes.items b.top b.below.items t js fs
@@ -34,10 +36,14 @@ pub record IsLeaf (w : List ℕ) (start stop : ℕ) (kind : Kind) (j : Json) : T
   pub slice : slice_range w start stop ≡ spelling j
 
 abbrev pub Puts : Builder → ℕ → ℕ → Kind → Builder → Type 0
-Puts old start stop kind new = (w : List ℕ) (t : Turn) (js : Parts) (fs : List Frame) (j : Json) → IsLeaf w start stop kind j → Lies w old t js fs → Lies w new (following t) (snoc js j) fs
+Puts old start stop kind new =
+    (w : List ℕ) (t : Turn) (js : Parts) (fs : List Frame) (j : Json) → IsLeaf w start stop kind j
+    → Lies w old t js fs → Lies w new (following t) (snoc js j) fs
 
 abbrev pub Opens : Builder → CodeTurn → ℕ → Builder → Type 0
-Opens old turn start new = (w : List ℕ) (g : Frame) (gs : List Frame) → Lies w old g.turn g.parts gs → start ≡ length (bytes_below (g ∷ gs)) → Lies w new (turn_of turn) no_parts (g ∷ gs)
+Opens old turn start new =
+    (w : List ℕ) (g : Frame) (gs : List Frame) → Lies w old g.turn g.parts gs
+    → start ≡ length (bytes_below (g ∷ gs)) → Lies w new (turn_of turn) no_parts (g ∷ gs)
 
 abbrev pub Closes : Builder → ℕ → Builder → Type 0
 Closes old stop new = (w : List ℕ) (t : Turn) (js : Parts) (g : Frame) (gs : List Frame) (v : List ℕ)
@@ -45,7 +51,8 @@ Closes old stop new = (w : List ℕ) (t : Turn) (js : Parts) (g : Frame) (gs : L
     → Lies w new (following g.turn) (snoc g.parts (closed t v js)) gs
 
 abbrev pub IsOutermost : Builder → Type 0
-IsOutermost b = (w : List ℕ) (t : Turn) (js : Parts) (g : Frame) (gs : List Frame) → Lies w b t js (g ∷ gs) → ⊥
+IsOutermost b =
+    (w : List ℕ) (t : Turn) (js : Parts) (g : Frame) (gs : List Frame) → Lies w b t js (g ∷ gs) → ⊥
 
 abbrev pub IsInside : Builder → Type 0
 IsInside b = (w : List ℕ) (t : Turn) (js : Parts) → Lies w b t js [] → ⊥
@@ -53,4 +60,7 @@ IsInside b = (w : List ℕ) (t : Turn) (js : Parts) → Lies w b t js [] → ⊥
 -- the entry of the innermost bracket has its end
 abbrev pub EndsEntry : Builder → ℕ → Builder → Type 0
 EndsEntry old stop new = (d : Entry) → old.top.entry < length old.nodes.items
-    → new.nodes.items ≡ set old.nodes.items old.top.entry (ended_entry (get_or old.nodes.items old.top.entry d) old.top.count stop (length old.nodes.items))
+    → new.nodes.items
+    ≡ set old.nodes.items old.top.entry
+    (ended_entry (get_or old.nodes.items old.top.entry d) old.top.count stop
+    (length old.nodes.items))

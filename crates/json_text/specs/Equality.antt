@@ -16,7 +16,8 @@ mutual
     texts : (v w : List ℕ) → unescaped v ≡ unescaped w → AreEqual (text v) (text w)
     lists : (v w : List ℕ) (js ks : Parts) → AreEqualItems js ks → AreEqual (array v js) (array w ks)
     objects : (v w : List ℕ) (js ks : Parts)
-        → ((name : List ℕ) → AreEqualMembers (last_named name (list_of js)) (last_named name (list_of ks)))
+        → ((name : List ℕ)
+        → AreEqualMembers (last_named name (list_of js)) (last_named name (list_of ks)))
         → AreEqual (object v js) (object w ks)
 
   pub data AreEqualItems : Parts → Parts → Type 0 where

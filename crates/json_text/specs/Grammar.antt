@@ -78,10 +78,13 @@ abbrev mutual
   IsValue (number w) = IsNumber w
   IsValue (text w) = IsString w
   -- `array = begin-array [ value *( value-separator value ) ] end-array`
-  IsValue (array w js) = (inside : List ℕ) × (w ≡ 0x5b ∷ inside ++ 0x5d ∷ []) × AreParts element inside js
+  IsValue (array w js) =
+      (inside : List ℕ) × (w ≡ 0x5b ∷ inside ++ 0x5d ∷ []) × AreParts element inside js
   -- `object = begin-object [ member *( value-separator member ) ] end-object`,
   -- `member = string name-separator value`
-  IsValue (object w js) = (inside : List ℕ) × (w ≡ 0x7b ∷ inside ++ 0x7d ∷ []) × AreParts name inside js × (turn_after name js ≡ name)
+  IsValue (object w js) =
+      (inside : List ℕ) × (w ≡ 0x7b ∷ inside ++ 0x7d ∷ []) × AreParts name inside js
+      × (turn_after name js ≡ name)
 
   -- what stands between the brackets
   pub AreParts : Turn → List ℕ → Parts → Type 0

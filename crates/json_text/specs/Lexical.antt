@@ -38,7 +38,9 @@ IsSign w = (w ≡ []) ⊎ ((b : ℕ) × (w ≡ b ∷ []) × (is_sign b ≡ true)
 
 -- `exp = e [ minus / plus ] 1*DIGIT`
 abbrev pub IsExponent : List ℕ → Type 0
-IsExponent w = (mark : ℕ) × (sign : List ℕ) × (ds : List ℕ) × (w ≡ mark ∷ (sign ++ ds)) × (is_exponent_mark mark ≡ true) × IsSign sign × AreDigits ds
+IsExponent w =
+    (mark : ℕ) × (sign : List ℕ) × (ds : List ℕ) × (w ≡ mark ∷ (sign ++ ds))
+    × (is_exponent_mark mark ≡ true) × IsSign sign × AreDigits ds
 
 abbrev pub Maybe : (List ℕ → Type 0) → List ℕ → Type 0
 Maybe P w = (w ≡ []) ⊎ P w
@@ -105,7 +107,8 @@ hex_c_to_f = (0x43, 0x46) ∷ (0x63, 0x66) ∷ []
 
 -- `"`, `\`, `/`, `b`, `f`, `n`, `r` and `t`
 abbrev pub short_escape : Class
-short_escape = only 0x22 ++ only 0x5c ++ only 0x2f ++ only 0x62 ++ only 0x66 ++ only 0x6e ++ only 0x72 ++ only 0x74
+short_escape =
+    only 0x22 ++ only 0x5c ++ only 0x2f ++ only 0x62 ++ only 0x66 ++ only 0x6e ++ only 0x72 ++ only 0x74
 
 abbrev pub backslash : Class
 backslash = only 0x5c
@@ -128,7 +131,8 @@ characters =
     ∷ (backslash ∷ short_escape ∷ [])
     ∷ (backslash ∷ letter_u ∷ hex_not_d ∷ hex ∷ hex ∷ hex ∷ [])
     ∷ (backslash ∷ letter_u ∷ letter_d ∷ hex_0_to_7 ∷ hex ∷ hex ∷ [])
-    ∷ (backslash ∷ letter_u ∷ letter_d ∷ hex_8_to_b ∷ hex ∷ hex ∷ backslash ∷ letter_u ∷ letter_d ∷ hex_c_to_f ∷ hex ∷ hex ∷ [])
+    ∷ (backslash ∷ letter_u ∷ letter_d ∷ hex_8_to_b ∷ hex ∷ hex ∷ backslash ∷ letter_u ∷ letter_d
+    ∷ hex_c_to_f ∷ hex ∷ hex ∷ [])
     ∷ []
 
 -- the pattern is in the list

@@ -86,7 +86,8 @@ abbrev pub Begins : ℕ → Option CodeMode → Type 0
 Begins b None = (f : Frame) (fs : List Frame) → begin_number b (next_stage stage.Start b) f fs ≡ None
 Begins b (Some c) =
     (m : Mode) × IsMode c m × (token m ≡ b ∷ []) × IsToken m
-    × ((f : Frame) (fs : List Frame) → begin_number b (next_stage stage.Start b) f fs ≡ Some (state m f fs))
+    × ((f : Frame) (fs : List Frame)
+    → begin_number b (next_stage stage.Start b) f fs ≡ Some (state m f fs))
 
 abbrev pub HasOne : Parts → Type 0
 HasOne js = (j : Json) × (js ≡ part j no_parts)

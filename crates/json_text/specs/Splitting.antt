@@ -11,7 +11,8 @@ piece_bytes (piece.Code c) = character_bytes c
 -- the first piece of the text from this place on, and the spelling of what is left
 abbrev pub SplitsFrom : Escape → List ℕ → Option (Piece × List ℕ) → Type 0
 SplitsFrom place w None = text_from place w ≡ []
-SplitsFrom place w (Some p) = (text_from place w ≡ piece_bytes p.0 ++ text_from none p.1) × (length p.1 < length w)
+SplitsFrom place w (Some p) =
+    (text_from place w ≡ piece_bytes p.0 ++ text_from none p.1) × (length p.1 < length w)
 
 -- the same behind a code unit
 abbrev pub SplitsAfter : ℕ → List ℕ → Option (Piece × List ℕ) → Type 0

@@ -21,10 +21,14 @@ alternatives at.AfterEd = (((0x80, 0x9f) ∷ []) ∷ tail ∷ []) ∷ []
 alternatives at.AfterF0 = (((0x90, 0xbf) ∷ []) ∷ tail ∷ tail ∷ []) ∷ []
 alternatives at.AfterF4 = (((0x80, 0x8f) ∷ []) ∷ tail ∷ tail ∷ []) ∷ []
 alternatives at.Escape =
-    (short_escape ∷ []) ∷ (letter_u ∷ hex_not_d ∷ hex ∷ hex ∷ hex ∷ []) ∷ (letter_u ∷ letter_d ∷ hex_0_to_7 ∷ hex ∷ hex ∷ [])
+    (short_escape ∷ []) ∷ (letter_u ∷ hex_not_d ∷ hex ∷ hex ∷ hex ∷ [])
+    ∷ (letter_u ∷ letter_d ∷ hex_0_to_7 ∷ hex ∷ hex ∷ [])
     ∷ (letter_u ∷ letter_d ∷ hex_8_to_b ∷ hex ∷ hex ∷ backslash ∷ letter_u ∷ low) ∷ []
-alternatives at.Unit = (hex_not_d ∷ hex ∷ hex ∷ hex ∷ []) ∷ (letter_d ∷ hex_0_to_7 ∷ hex ∷ hex ∷ []) ∷ (letter_d ∷ hex_8_to_b ∷ hex ∷ hex ∷ backslash ∷ letter_u ∷ low) ∷ []
-alternatives at.AfterD = (hex_0_to_7 ∷ hex ∷ hex ∷ []) ∷ (hex_8_to_b ∷ hex ∷ hex ∷ backslash ∷ letter_u ∷ low) ∷ []
+alternatives at.Unit =
+    (hex_not_d ∷ hex ∷ hex ∷ hex ∷ []) ∷ (letter_d ∷ hex_0_to_7 ∷ hex ∷ hex ∷ [])
+    ∷ (letter_d ∷ hex_8_to_b ∷ hex ∷ hex ∷ backslash ∷ letter_u ∷ low) ∷ []
+alternatives at.AfterD =
+    (hex_0_to_7 ∷ hex ∷ hex ∷ []) ∷ (hex_8_to_b ∷ hex ∷ hex ∷ backslash ∷ letter_u ∷ low) ∷ []
 alternatives at.Hex1 = (hex ∷ []) ∷ []
 alternatives at.Hex2 = (hex ∷ hex ∷ []) ∷ []
 alternatives at.Hex3 = (hex ∷ hex ∷ hex ∷ []) ∷ []
@@ -61,7 +65,9 @@ abbrev pub is_d : ℕ → Bool
 is_d b = (b == 0x44) || (b == 0x64)
 
 abbrev pub is_short : ℕ → Bool
-is_short b = (b == 0x22) || (b == 0x5c) || (b == 0x2f) || (b == 0x62) || (b == 0x66) || (b == 0x6e) || (b == 0x72) || (b == 0x74)
+is_short b =
+    (b == 0x22) || (b == 0x5c) || (b == 0x2f) || (b == 0x62) || (b == 0x66) || (b == 0x6e) || (b == 0x72)
+    || (b == 0x74)
 
 abbrev pub is_low_digit : ℕ → Bool
 is_low_digit b = in_range 0x43 0x46 b || in_range 0x63 0x66 b
@@ -71,7 +77,8 @@ is_high_digit b = in_range 0x38 0x39 b || in_range 0x41 0x42 b || in_range 0x61 
 
 -- how a string goes on inside a character, or None where it cannot
 abbrev pub next_within : Within → ℕ → Option Within
-next_within at.Between b = cond (is_unescaped b) (Some at.Between) (cond (b == 0x5c) (Some at.Escape) (after_lead b))
+next_within at.Between b =
+    cond (is_unescaped b) (Some at.Between) (cond (b == 0x5c) (Some at.Escape) (after_lead b))
 next_within at.Tail1 b = next_if (in_range 0x80 0xbf b) at.Between
 next_within at.Tail2 b = next_if (in_range 0x80 0xbf b) at.Tail1
 next_within at.Tail3 b = next_if (in_range 0x80 0xbf b) at.Tail2

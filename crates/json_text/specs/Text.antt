@@ -107,7 +107,8 @@ hex_digit n = cond (nat_lt n 10) (0x30 + n) (0x57 + n)
 abbrev pub escaped_byte : ℕ → List ℕ
 escaped_byte b =
     cond ((b == 0x22) || (b == 0x5c)) (0x5c ∷ b ∷ [])
-    (cond (nat_lt b 0x20) (0x5c ∷ 0x75 ∷ 0x30 ∷ 0x30 ∷ hex_digit (b / 16) ∷ hex_digit (b % 16) ∷ []) (b ∷ []))
+    (cond (nat_lt b 0x20) (0x5c ∷ 0x75 ∷ 0x30 ∷ 0x30 ∷ hex_digit (b / 16) ∷ hex_digit (b % 16) ∷ [])
+    (b ∷ []))
 
 abbrev pub escaped : List ℕ → List ℕ
 escaped [] = []

@@ -62,7 +62,8 @@ map-append : (xs ys : List Json) → map piece_of (xs ++ ys) ≡ map piece_of xs
 map-append [] ys = refl
 map-append (x ∷ xs) ys = ap (λ (z : List Piece). piece_of x ∷ z) (map-append xs ys)
 
-taken : (js : Parts) (rest : List Json) → parts_from (take (length (list_of js)) (list_of js ++ rest)) ≡ js
+taken : (js : Parts) (rest : List Json)
+    → parts_from (take (length (list_of js)) (list_of js ++ rest)) ≡ js
 taken js rest = ap parts_from (take-append_seam (list_of js) rest) ∙ parts-from-list js
 
 mutual
@@ -73,15 +74,22 @@ mutual
   values-of (number w) rest = refl
   values-of (text w) rest = refl
   values-of (array w js) rest =
-      ap (λ (x : List Json). array w (parts_from (take (length (list_of js)) x)) ∷ drop (length (list_of js)) x) (values-of-parts js rest)
-      ∙ ap (λ (x : Parts). array w x ∷ drop (length (list_of js)) (list_of js ++ values rest)) (taken js (values rest))
+      ap (λ (x : List Json).
+      array w (parts_from (take (length (list_of js)) x)) ∷ drop (length (list_of js)) x)
+      (values-of-parts js rest)
+      ∙ ap (λ (x : Parts). array w x ∷ drop (length (list_of js)) (list_of js ++ values rest))
+      (taken js (values rest))
       ∙ ap (λ (x : List Json). array w js ∷ x) (drop-append_seam (list_of js) (values rest))
   values-of (object w js) rest =
-      ap (λ (x : List Json). object w (parts_from (take (length (list_of js)) x)) ∷ drop (length (list_of js)) x) (values-of-parts js rest)
-      ∙ ap (λ (x : Parts). object w x ∷ drop (length (list_of js)) (list_of js ++ values rest)) (taken js (values rest))
+      ap (λ (x : List Json).
+      object w (parts_from (take (length (list_of js)) x)) ∷ drop (length (list_of js)) x)
+      (values-of-parts js rest)
+      ∙ ap (λ (x : Parts). object w x ∷ drop (length (list_of js)) (list_of js ++ values rest))
+      (taken js (values rest))
       ∙ ap (λ (x : List Json). object w js ∷ x) (drop-append_seam (list_of js) (values rest))
 
-  values-of-parts : (js : Parts) (rest : List Piece) → values (map piece_of (nodes_of js) ++ rest) ≡ list_of js ++ values rest
+  values-of-parts : (js : Parts) (rest : List Piece)
+      → values (map piece_of (nodes_of js) ++ rest) ≡ list_of js ++ values rest
   values-of-parts no_parts rest = refl
   values-of-parts (part j js) rest =
       ap (λ (x : List Piece). values (x ++ rest)) (map-append (nodes j) (nodes_of js))
@@ -100,7 +108,9 @@ same-document d = ap (λ (j : Json). record { source = d.source; value = j }) (v
 
 -- a text and its value are stored as the text and the value's nodes
 abbrev pub document_code : Coded Document
-document_code = code_by (List ℕ × List Piece) (coded× (coded_list coded_ℕ) (coded_list (coded× coded_ℕ (coded× coded_ℕ (coded_list coded_ℕ)))))
+document_code =
+    code_by (List ℕ × List Piece)
+    (coded× (coded_list coded_ℕ) (coded_list (coded× coded_ℕ (coded× coded_ℕ (coded_list coded_ℕ)))))
     (λ d. (d.source, pieces d.value)) document_from same-document
 
 abbrev pub piece_in : List ℕ → Entry → Piece

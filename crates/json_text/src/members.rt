@@ -19,7 +19,8 @@ impl<'t, 'a> Model for MemberNodes<'t, 'a> {
 
     ghost view = { λ m. sibling_pairs m.tree.now m.next m.left };
 
-    ghost invariant = { λ m. AllByRecursion (AreNodesOf m.tree.now) (sibling_pairs m.tree.now m.next m.left) };
+    ghost invariant = { λ m.
+        AllByRecursion (AreNodesOf m.tree.now) (sibling_pairs m.tree.now m.next m.left) };
 }
 
 impl<'t, 'a> MemberNodes<'t, 'a> {

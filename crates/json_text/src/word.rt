@@ -36,7 +36,8 @@ impl Word {
 
     /// What comes behind it, or None at the end.
     pub(crate) fn rest(self) -> Option<Self>
-        ensures { MatchOption result (rest_of self ≡ first_of self ∷ []) (λ w. (rest_of self ≡ first_of self ∷ rest_of w) × (word_value w ≡ word_value self)) }
+        ensures { MatchOption result (rest_of self ≡ first_of self ∷ [])
+            (λ w. (rest_of self ≡ first_of self ∷ rest_of w) × (word_value w ≡ word_value self)) }
     {
         match self {
             Word::Ull => Some(Word::Ll),

@@ -10,7 +10,8 @@ quoted_id number = codes "\"evt-" ++ decimal number ++ codes "\""
 
 -- the ids of the events that a request brought, in order, parted by commas (44)
 abbrev pub ids_body : List ℕ → List ℕ
-ids_body numbers = codes "{\"ids\":[" ++ join_with_byte 44 (map quoted_id numbers) ++ codes "],\"status\":200}"
+ids_body numbers =
+    codes "{\"ids\":[" ++ join_with_byte 44 (map quoted_id numbers) ++ codes "],\"status\":200}"
 
 abbrev pub ids_answer : List ℕ → Out
 ids_answer numbers = Answer 200 (ids_body numbers)
@@ -31,7 +32,8 @@ error_answer status word at = Answer status (error_begun word ++ error_ended at 
 
 -- the function of a registration that is at fault, and its member
 abbrev pub function_member : ℕ → List ℕ → List ℕ
-function_member function member = codes ",\"function\":" ++ decimal function ++ codes ",\"member\":\"" ++ member ++ codes "\""
+function_member function member =
+    codes ",\"function\":" ++ decimal function ++ codes ",\"member\":\"" ++ member ++ codes "\""
 
 abbrev pub function_error_answer : ℕ → List ℕ → ℕ → List ℕ → Option ℕ → Out
 function_error_answer status word function member at =

@@ -48,7 +48,8 @@ without_issue issue issues = filter (λ e. not (has_issue issue e)) issues
 -- the entry in its place, where entries stand by the numbers of their issues
 abbrev pub insert_issue : IssueEntry → List IssueEntry → List IssueEntry
 insert_issue entry [] = entry ∷ []
-insert_issue entry (e ∷ es) = if nat_lt entry.issue e.issue then entry ∷ e ∷ es else e ∷ insert_issue entry es
+insert_issue entry (e ∷ es) =
+    if nat_lt entry.issue e.issue then entry ∷ e ∷ es else e ∷ insert_issue entry es
 
 -- ---- throttles
 
@@ -58,7 +59,8 @@ IsThrottle (Own function place value) = ⊥
 IsThrottle (Env value) = ⊥
 IsThrottle (Account value) = ⊥
 IsThrottle (Throttle function limit period burst key value) =
-    (0 < limit) × (limit ≤ 1000000) × (0 < period) × (period ≤ 31622400000) × (0 < burst) × (burst ≤ 1000000)
+    (0 < limit) × (limit ≤ 1000000) × (0 < period) × (period ≤ 31622400000) × (0 < burst)
+    × (burst ≤ 1000000)
 
 abbrev pub IsStart : Option Cell → Type 0
 IsStart None = Unit {0}
@@ -82,7 +84,8 @@ slack (Throttle function limit period burst key value) = (burst - 1) * ((period 
 -- stands on the left.
 abbrev pub lets_start : Cell → List ℕ → ℕ → Bool
 lets_start cell [] t = true
-lets_start cell (s ∷ later) t = nat_le (s + (1 + length later) * spacing cell) (t + slack cell) && lets_start cell later t
+lets_start cell (s ∷ later) t =
+    nat_le (s + (1 + length later) * spacing cell) (t + slack cell) && lets_start cell later t
 
 -- the greatest `s + m * spacing` over the starts
 abbrev pub greatest_of : Cell → List ℕ → ℕ
@@ -119,11 +122,15 @@ StandsFor entries cell starts = greatest_of cell starts ≡ greatest_at cell ent
 -- the entry in its place, where entries stand by their cells, or in the place of the one of its cell
 abbrev pub put_start : StartEntry → List StartEntry → List StartEntry
 put_start entry [] = entry ∷ []
-put_start entry (e ∷ es) = match_ordering (cell_cmp entry.cell e.cell) (entry ∷ e ∷ es) (entry ∷ es) (e ∷ put_start entry es)
+put_start entry (e ∷ es) =
+    match_ordering (cell_cmp entry.cell e.cell) (entry ∷ e ∷ es) (entry ∷ es) (e ∷ put_start entry es)
 
 -- a run starts
 abbrev pub after_start : Cell → ℕ → List StartEntry → List StartEntry
-after_start cell t entries = put_start (record { cell = cell; greatest = max (greatest_at cell entries) t + spacing cell }) entries
+after_start cell t entries =
+    put_start
+    (record { cell = cell; greatest = max (greatest_at cell entries) t + spacing cell })
+    entries
 
 -- the entries that tell anything of starts after a moment
 abbrev pub later_starts : ℕ → List StartEntry → List StartEntry

@@ -24,7 +24,8 @@ has_run run item = run == item.run
 -- the item in its place, where items stand by number
 abbrev pub insert_item : Item → List Item → List Item
 insert_item item [] = item ∷ []
-insert_item item (i ∷ is) = if nat_lt item.number i.number then item ∷ i ∷ is else i ∷ insert_item item is
+insert_item item (i ∷ is) =
+    if nat_lt item.number i.number then item ∷ i ∷ is else i ∷ insert_item item is
 
 abbrev pub without_number : ℕ → List Item → List Item
 without_number number items = filter (λ i. not (has_number number i)) items
@@ -87,11 +88,13 @@ groups_of items = length (group_firsts items)
 -- the release of a due item's start, where its cells are free
 abbrev pub release_of : List IssueEntry → List StartEntry → List CellLimit → Option Cell → Option ℕ
 release_of issues starts cells None = None
-release_of issues starts cells (Some start) = if are_free cells issues then Some (release_moment start starts) else None
+release_of issues starts cells (Some start) =
+    if are_free cells issues then Some (release_moment start starts) else None
 
 -- an item's due where it is to come, and else the release of its start
 abbrev pub moment_of : List IssueEntry → List StartEntry → ℕ → Item → Option ℕ
-moment_of issues starts t item = if nat_lt t item.due then Some item.due else release_of issues starts item.cells item.start
+moment_of issues starts t item =
+    if nat_lt t item.due then Some item.due else release_of issues starts item.cells item.start
 
 abbrev pub sooner : Option ℕ → Option ℕ → Option ℕ
 sooner None b = b

@@ -17,7 +17,8 @@ has_id id entry = bytes_eq id entry.id
 
 -- the number of the event that has this id, where it is remembered at the moment
 abbrev pub find_seen : List ℕ → ℕ → List SeenEntry → Option ℕ
-find_seen id moment entries = option_map (λ (e : SeenEntry). e.number) (find (λ e. has_id id e && is_remembered moment e) entries)
+find_seen id moment entries =
+    option_map (λ (e : SeenEntry). e.number) (find (λ e. has_id id e && is_remembered moment e) entries)
 
 -- the entries that outlast a moment
 abbrev pub remembered : ℕ → List SeenEntry → List SeenEntry
@@ -30,7 +31,8 @@ without_id id entries = filter (λ e. not (has_id id e)) entries
 -- the entry in its place, where entries stand by number
 abbrev pub insert_seen : SeenEntry → List SeenEntry → List SeenEntry
 insert_seen entry [] = entry ∷ []
-insert_seen entry (e ∷ es) = if nat_lt entry.number e.number then entry ∷ e ∷ es else e ∷ insert_seen entry es
+insert_seen entry (e ∷ es) =
+    if nat_lt entry.number e.number then entry ∷ e ∷ es else e ∷ insert_seen entry es
 
 -- A new entry takes the place of one of its id.
 abbrev pub note_seen : SeenEntry → List SeenEntry → List SeenEntry

@@ -84,7 +84,8 @@ woken truth event ws = map wait_number (filter (λ w. is_met truth event (wait_c
 
 -- the runs of the rules that an event meets, each once, in order
 abbrev pub cancelled : Truth → Event → List Rule → List ℕ
-cancelled truth event rs = in_order (map rule_run (filter (λ r. is_met truth event (rule_condition r)) rs))
+cancelled truth event rs =
+    in_order (map rule_run (filter (λ r. is_met truth event (rule_condition r)) rs))
 
 -- ---- buckets
 
@@ -99,12 +100,15 @@ is_in_bucket values event (Some b) = is_value b.value (values event b.path)
 
 -- what may be evaluated for an event: a condition of its name that is in the event's bucket or in none
 abbrev pub is_asked : Values → Event → Condition → Bool
-is_asked values event c = bytes_eq c.name event.name && is_some c.cond && is_in_bucket values event c.bucket
+is_asked values event c =
+    bytes_eq c.name event.name && is_some c.cond && is_in_bucket values event c.bucket
 
 -- The event meets a condition, and isn't in its bucket.
 abbrev pub is_hidden : Truth → Values → Event → Condition → Bool
-is_hidden truth values event c = is_met truth event c && is_some c.cond && not (is_in_bucket values event c.bucket)
+is_hidden truth values event c =
+    is_met truth event c && is_some c.cond && not (is_in_bucket values event c.bucket)
 
 -- Buckets are right for an event: none hides a condition that the event meets.
 abbrev pub AreBucketsRight : {X : Type 0} → (X → Condition) → Truth → Values → Event → List X → Type 0
-AreBucketsRight condition truth values event es = AllByRecursion (λ e. is_hidden truth values event (condition e) ≡ false) es
+AreBucketsRight condition truth values event es =
+    AllByRecursion (λ e. is_hidden truth values event (condition e) ≡ false) es

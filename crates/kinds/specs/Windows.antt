@@ -78,15 +78,21 @@ debounce_due d first t = capped (option_map (λ timeout. first + timeout) d.time
 
 -- the window that an event opens
 abbrev pub opened : WindowRule → ℕ → List ℕ → ℕ → ℕ → ℕ → Window
-opened (rule.Debounce d) version value event t number = window.Debounce number version value event t (debounce_due d t t)
-opened (rule.Batch b) version value event t number = window.Batch number version value (event ∷ []) (t + b.timeout)
+opened (rule.Debounce d) version value event t number =
+    window.Debounce number version value event t (debounce_due d t t)
+opened (rule.Batch b) version value event t number =
+    window.Batch number version value (event ∷ []) (t + b.timeout)
 
 -- the window after one event more: it keeps its number, a debounce the moment of its first event, a batch its due
 abbrev pub joined : WindowRule → ℕ → ℕ → Window → Window
-joined (rule.Debounce d) event t (window.Debounce number version value last first due) = window.Debounce number version value event first (debounce_due d first t)
-joined (rule.Debounce d) event t (window.Batch number version value events due) = window.Batch number version value events due
-joined (rule.Batch b) event t (window.Debounce number version value last first due) = window.Debounce number version value last first due
-joined (rule.Batch b) event t (window.Batch number version value events due) = window.Batch number version value (events ++ event ∷ []) due
+joined (rule.Debounce d) event t (window.Debounce number version value last first due) =
+    window.Debounce number version value event first (debounce_due d first t)
+joined (rule.Debounce d) event t (window.Batch number version value events due) =
+    window.Batch number version value events due
+joined (rule.Batch b) event t (window.Debounce number version value last first due) =
+    window.Debounce number version value last first due
+joined (rule.Batch b) event t (window.Batch number version value events due) =
+    window.Batch number version value (events ++ event ∷ []) due
 
 -- An event opens a window, or joins the one that is there.
 abbrev pub after_event : WindowRule → ℕ → List ℕ → ℕ → ℕ → ℕ → Option Window → Window
@@ -104,7 +110,9 @@ offered r w = if is_full r w then Full (number_of w) (events_of w) else Waits (n
 
 -- the windows after the event: a full one is closed
 abbrev pub standing : WindowRule → Window → List Window → List Window
-standing r w ws = if is_full r w then others (version_of w) (value_of w) ws else insert_window w (others (version_of w) (value_of w) ws)
+standing r w ws =
+    if is_full r w then others (version_of w) (value_of w) ws
+    else insert_window w (others (version_of w) (value_of w) ws)
 
 -- ## What is asked
 
@@ -114,7 +122,8 @@ has_room r None = true
 has_room (rule.Debounce d) (Some (window.Debounce number version value event first due)) = true
 has_room (rule.Debounce d) (Some (window.Batch number version value events due)) = false
 has_room (rule.Batch b) (Some (window.Debounce number version value event first due)) = false
-has_room (rule.Batch b) (Some (window.Batch number version value events due)) = nat_lt (length events) b.size
+has_room (rule.Batch b) (Some (window.Batch number version value events due)) =
+    nat_lt (length events) b.size
 
 -- 366 days, in milliseconds
 abbrev pub longest_span : ℕ
@@ -122,7 +131,8 @@ longest_span = 31622400000
 
 -- no period and no timeout is over 366 days
 abbrev pub IsRule : WindowRule → Type 0
-IsRule (rule.Debounce d) = (d.period ≤ longest_span) × IfSome d.timeout (λ timeout. timeout ≤ longest_span)
+IsRule (rule.Debounce d) =
+    (d.period ≤ longest_span) × IfSome d.timeout (λ timeout. timeout ≤ longest_span)
 IsRule (rule.Batch b) = b.timeout ≤ longest_span
 
 -- the first event of a debounce came at a moment

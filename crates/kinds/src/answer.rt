@@ -7,7 +7,8 @@ use std::alloc::Global;
 
 /// Adds one more id to a list of ids, with a comma before it where it isn't the first.
 fn push_id(body: &mut Bytes, is_first: bool, number: u64) -> Result<(), Memory>
-    ensures { OnOk result (body.new ≡ body.old ++ (if is_first then [] else 44 ∷ []) ++ quoted_id number) }
+    ensures { OnOk result
+        (body.new ≡ body.old ++ (if is_first then [] else 44 ∷ []) ++ quoted_id number) }
 {
     if !is_first {
         body.push(b',')?;

@@ -34,7 +34,9 @@ key_of rank number e = (rank e, number e)
 -- the entry in its place, where entries stand in order of rank and number
 abbrev pub insert_in : {X : Type 0} → (X → ℕ) → (X → ℕ) → X → List X → List X
 insert_in rank number x [] = x ∷ []
-insert_in rank number x (e ∷ es) = if is_lt (pair_cmp (key_of rank number x) (key_of rank number e)) then x ∷ e ∷ es else e ∷ insert_in rank number x es
+insert_in rank number x (e ∷ es) =
+    if is_lt (pair_cmp (key_of rank number x) (key_of rank number e)) then x ∷ e ∷ es
+    else e ∷ insert_in rank number x es
 
 abbrev pub IsInOrder : {X : Type 0} → (X → ℕ) → (X → ℕ) → List X → Type 0
 IsInOrder rank number es = IsStrictlySortedBy pair_cmp (map (key_of rank number) es)
@@ -56,7 +58,8 @@ AreApart number es = AreApartBy (λ a b. a == b) number es
 -- the entry in its place, where entries stand in order of number
 abbrev pub insert_by : {X : Type 0} → (X → ℕ) → X → List X → List X
 insert_by number x [] = x ∷ []
-insert_by number x (e ∷ es) = if is_lt (nat_cmp (number x) (number e)) then x ∷ e ∷ es else e ∷ insert_by number x es
+insert_by number x (e ∷ es) =
+    if is_lt (nat_cmp (number x) (number e)) then x ∷ e ∷ es else e ∷ insert_by number x es
 
 -- a number among others that stand in order, each once
 abbrev pub add_number : ℕ → List ℕ → List ℕ

@@ -89,7 +89,8 @@ impl<T: Drop> IntoIterator for Items<T> {
 
     type IntoIter = IntoIter<T, Global>;
 
-    ghost into_iter_gives = { λ v r. (into_iter_items r ≡ v) × (into_iter_len r ≡ length v) × EveryRun (into_iter_steps {X = T} {Z = Global}) (λ p. ItemsAre p (into_iter_items p.from)) };
+    ghost into_iter_gives = { λ v r. (into_iter_items r ≡ v) × (into_iter_len r ≡ length v)
+        × EveryRun (into_iter_steps {X = T} {Z = Global}) (λ p. ItemsAre p (into_iter_items p.from)) };
 
     fn into_iter(self) -> IntoIter<T, Global> {
         self.items.into_iter()
@@ -106,7 +107,8 @@ impl<'a, T> IntoIterator for &'a Items<T> {
 
     type IntoIter = Iter<'a, T>;
 
-    ghost into_iter_gives = { λ v r. (iter_rest r ≡ v.now) × EveryRun (iter_steps {A = T}) (λ p. ItemsMapTo p (λ y. y.now) (iter_rest p.from)) };
+    ghost into_iter_gives = { λ v r. (iter_rest r ≡ v.now)
+        × EveryRun (iter_steps {A = T}) (λ p. ItemsMapTo p (λ y. y.now) (iter_rest p.from)) };
 
     fn into_iter(self) -> Iter<'a, T> {
         self.as_slice().iter()

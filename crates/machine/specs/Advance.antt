@@ -89,7 +89,8 @@ over_by timed.Wait number s = wait_over (find (has waiting_number number) s.wait
 over_by timed.Invocation number s = invocation_over (find (has invocation_number number) s.invocations) s
 over_by timed.Window number s = window_over (find (windows.has_number number) s.windows) s
 over_by timed.Rule number s = model.without_rule number s
-over_by (timed.Limit call) number s = fail_found (open_issue call s) (error_object (codes "call limit")) s
+over_by (timed.Limit call) number s =
+    fail_found (open_issue call s) (error_object (codes "call limit")) s
 
 abbrev pub hangs_of : Timed → List Out
 hangs_of (timed.Limit call) = Hang call ∷ []

@@ -32,21 +32,24 @@ is_left items issues r =
 pub record AreWantsNoted (live : List Run) (items : List Item) (issues : List Issue) (wanting : List ℕ)
     : Type 0 where
   pub ordered : IsStrictlySortedBy nat_cmp (map run_number live)
-  pub noted : AllByRecursion (λ r. is_left items issues r ≡ true → has_number wanting r.number ≡ true) live
+  pub noted : AllByRecursion
+      (λ r. is_left items issues r ≡ true → has_number wanting r.number ≡ true) live
 
 -- ## What is named
 
 -- a run that has not ended, or a window, names the event
 abbrev pub is_event_used : List Run → List Window → ℕ → Bool
 is_event_used live ws event =
-    list_any (λ (r : Run). is_in event r.events) live || list_any (λ w. is_in event (windows.events_of w)) ws
+    list_any (λ (r : Run). is_in event r.events) live
+    || list_any (λ w. is_in event (windows.events_of w)) ws
 
 abbrev pub is_event_named : List Run → List Run → List Window → ℕ → Bool
 is_event_named live closing ws event =
     is_event_used live ws event || list_any (λ (r : Run). is_in event r.events) closing
 
 -- an event that wasn't touched is named, and counted where it is used
-pub record IsEventRight (live closing : List Run) (ws : List Window) (used : List ℕ) (event : ℕ) : Type 0 where
+pub record IsEventRight (live closing : List Run) (ws : List Window) (used : List ℕ)
+    (event : ℕ) : Type 0 where
   pub counted : has_number used event ≡ is_event_used live ws event
   pub named : is_event_named live closing ws event ≡ true
 
@@ -73,11 +76,13 @@ pub record AreVersionsRight (live closing : List Run) (ws : List Window) (retire
 abbrev pub IsClosing : List Issue → List ℕ → ℕ → Type 0
 IsClosing issues touched run = has_number touched run ≡ false → has_open_call issues run ≡ true
 
-pub record AreEndsRight (runs : ℕ) (live closing : List Run) (ended : List EndedRun) (issues : List Issue)
+pub record AreEndsRight (runs : ℕ) (live closing : List Run) (ended : List EndedRun)
+    (issues : List Issue)
     (touched : List ℕ) : Type 0 where
   pub closing_open : AllByRecursion (λ (r : Run). IsClosing issues touched r.number) closing
   pub ended_open :
-      AllByRecursion (λ (e : EndedRun). IsClosing issues touched e.run) (take (length ended - 1000) ended)
+      AllByRecursion (λ (e : EndedRun). IsClosing issues touched e.run)
+      (take (length ended - 1000) ended)
   pub given : AllByRecursion (λ (e : EndedRun). e.run ≤ runs) ended
   pub once : AllByRecursion (λ (r : Run). find (has ended_number r.number) ended ≡ None) live
   pub own_calls : ArePairwise (λ (i later : Issue). i.call ≢ later.call) issues

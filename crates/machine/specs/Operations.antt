@@ -101,7 +101,9 @@ effect_of (op.InvokeFunction name id payload t) r s = invoke r name id payload t
 abbrev pub slept : ℕ → List ℕ → Time → State → State
 slept run name t s = record s {
   entries = s.entries + 1;
-  sleeps = s.sleeps ++ (record { number = s.entries + 1; run = run; hash = name; due = due_at t s.moment }) ∷ [];
+  sleeps =
+      s.sleeps ++ (record { number = s.entries + 1; run = run; hash = name; due = due_at t s.moment })
+      ∷ [];
 }
 
 abbrev pub first_at : Option Run → ℕ
@@ -141,14 +143,17 @@ await_child run name child t s = record s {
 
 -- the event, then the run
 abbrev pub make_child : Option FunctionEntry → ℕ → List ℕ → Option (List ℕ) → State → State
-make_child found run name payload s = make_at found ((s.events + 1) ∷ []) (Some (record { run = run; hash = name }))
+make_child found run name payload s =
+    make_at found ((s.events + 1) ∷ []) (Some (record { run = run; hash = name }))
     (add_event (event_with (invoked_event payload) s) s)
 
 -- and then what waits for it
-abbrev pub invoke_version : Option FunctionEntry → ℕ → List ℕ → Option (List ℕ) → Option Time → State → State
+abbrev pub invoke_version : Option FunctionEntry → ℕ → List ℕ → Option (List ℕ) → Option Time → State
+    → State
 invoke_version found run name payload t s =
     await_child run name (s.runs + 1) t (make_child found run name payload s)
 
-abbrev pub invoke_current : Option FunctionEntry → ℕ → List ℕ → Option (List ℕ) → Option Time → State → State
+abbrev pub invoke_current : Option FunctionEntry → ℕ → List ℕ → Option (List ℕ) → Option Time → State
+    → State
 invoke_current None run name payload t s = record_result run name unknown_function s
 invoke_current (Some f) run name payload t s = invoke_version (Some f) run name payload t s

@@ -21,7 +21,8 @@ idle_at (Some r) s = is_idle r s
 
 -- an item of a run is queued, or a call of it is open
 abbrev pub is_called : ℕ → State → Bool
-is_called run s = list_any (λ (i : Item). run == i.run) s.items || list_any (λ (i : Issue). run == i.item.run) s.issues
+is_called run s =
+    list_any (λ (i : Item). run == i.run) s.items || list_any (λ (i : Issue). run == i.item.run) s.issues
 
 -- a run waits for nothing, and isn't to find out what comes next
 abbrev pub is_resting : Run → Bool

@@ -46,7 +46,8 @@ version_unless true version s = s
 version_unless false version s = without_version version s
 
 abbrev pub look_at_version : ℕ → State → State
-look_at_version version s = version_unless (is_version_in_use s.live s.closing s.windows version) version s
+look_at_version version s =
+    version_unless (is_version_in_use s.live s.closing s.windows version) version s
 
 -- ## What is left to look at
 
@@ -67,7 +68,8 @@ pub record IsTidied (word : State → State) (old new : Parts) : Type 0 where
 
 -- one of these numbers was looked at, or there was none
 abbrev pub IsLooked : (Loose → List ℕ) → (State → State) → Bool → Parts → Parts → Type 0
-IsLooked part word true old new = IsTidied word old new × (length (part new.loose) < length (part old.loose))
+IsLooked part word true old new =
+    IsTidied word old new × (length (part new.loose) < length (part old.loose))
 IsLooked part word false old new = (new ≡ old) × (part old.loose ≡ [])
 
 -- where the event is there, it is named, and counted where it is used

@@ -34,7 +34,8 @@ pub record AreFresh (fs : List FunctionEntry) (vs : Versions) : Type 0 where
   pub retired : HaveOtherVersions fs vs.retired
 
 -- each retired one stands under its version, and none is current
-pub record AreVersioned (current : List FunctionEntry) (entries : List (ℕ × FunctionEntry)) : Type 0 where
+pub record AreVersioned (current : List FunctionEntry)
+    (entries : List (ℕ × FunctionEntry)) : Type 0 where
   pub ordered : IsStrictlySortedBy by_version current
   pub stored : IsStored nat_cmp version_of entries
   pub apart : HaveOtherVersions current (values_of entries)

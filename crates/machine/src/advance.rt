@@ -231,8 +231,10 @@ impl Parts {
     fn take_window(&mut self, number: u64) -> Result<Option<Fired>, Memory>
         requires held { IsHeld self.old }
         requires numbers { AreApart number_of self.old.windows }
-        ensures value { IfOk result (λ w. w ≡ option_map fired (find (has_number number) self.old.windows)) }
-        ensures now { OnOk result (Becomes (without_window number (state_of self.old)) self.old self.new) }
+        ensures value { IfOk result
+            (λ w. w ≡ option_map fired (find (has_number number) self.old.windows)) }
+        ensures now { OnOk result
+            (Becomes (without_window number (state_of self.old)) self.old self.new) }
     {
         let Some(fired) = self.windows.fire(number) else {
             return Ok(None);

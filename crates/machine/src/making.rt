@@ -99,7 +99,8 @@ impl Parts {
         requires held { IsHeld self.old }
         requires next { origin.number ≡ self.old.counts.runs + 1 }
         requires fit { IsNewFit (state_of self.old) (run_of origin) }
-        ensures { OnOk result (Becomes (begin_run (run_of origin) (state_of self.old)) self.old self.new) }
+        ensures { OnOk result
+            (Becomes (begin_run (run_of origin) (state_of self.old)) self.old self.new) }
     {
         self.loose.touch(origin.version, origin.events.as_slice())?;
         self.counts.runs = origin.number;
@@ -128,7 +129,8 @@ impl Parts {
         requires held { IsHeld self.old }
         requires given { first ≤ self.old.counts.events }
         requires fit { IsBucketOf self.old.texts.texts first rule.cond rule.bucket }
-        ensures { OnOk result (Becomes (add_draft run first rule (state_of self.old)) self.old self.new) }
+        ensures { OnOk result
+            (Becomes (add_draft run first rule (state_of self.old)) self.old self.new) }
     {
         let number = self.counts.next_entry()?;
         self.rules.add(Rule {

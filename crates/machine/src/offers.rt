@@ -139,7 +139,8 @@ impl Parts {
         requires held { IsHeld self.old }
         requires given { event ≤ self.old.counts.events }
         requires right { IsRuleOf (function_at version (state_of self.old)) rule.now }
-        ensures placed { IfOk result (λ p. p ≡ placed_at version rule.now value event (state_of self.old)) }
+        ensures placed { IfOk result
+            (λ p. p ≡ placed_at version rule.now value event (state_of self.old)) }
         ensures now { OnOk result (Becomes
             (joined_at version rule.now value event (state_of self.old)) self.old self.new) }
     {

@@ -85,7 +85,8 @@ impl Parts {
     // An error that isn't the last.
     fn take_early(&self, item: &Item, op: &Op, no_retry: bool) -> Option<Taken>
         ensures { result
-            ≡ early_taken item.now no_retry op.now (live_run item.now.run (state_of self.now)) (state_of self.now) }
+            ≡ early_taken item.now no_retry op.now (live_run item.now.run (state_of self.now))
+            (state_of self.now) }
     {
         match op {
             Op::StepError { hash, .. } if !no_retry && !self.is_last(item) => {
@@ -103,7 +104,8 @@ impl Parts {
     // What an operation makes of its name.
     fn take_named(&mut self, run: u64, op: Op) -> Result<Naming, Memory>
         requires held { IsHeld self.old }
-        ensures named { IfOk result (λ n. n ≡ naming_in (note_of op) (live_run run (state_of self.old))) }
+        ensures named { IfOk result
+            (λ n. n ≡ naming_in (note_of op) (live_run run (state_of self.old))) }
         ensures now { IfOk result (λ n. Becomes (if_new n
             (at_run (effect_of op) (live_run run (state_of self.old)) (state_of self.old))
             (state_of self.old)) self.old self.new) }
@@ -137,7 +139,8 @@ impl Parts {
     // Whether no attempt is left for an item's call.
     fn is_last(&self, item: &Item) -> bool
         ensures { result
-            ≡ nat_le (retries_at (live_run item.now.run (state_of self.now)) (state_of self.now)) item.now.attempt }
+            ≡ nat_le (retries_at (live_run item.now.run (state_of self.now))
+            (state_of self.now)) item.now.attempt }
     {
         match self.runs.live(item.run) {
             Some(run) => self.retries(run.version()) <= item.attempt,
@@ -170,7 +173,8 @@ impl Parts {
     // A step is to run by a call of its own.
     fn plan(&mut self, run: u64, hash: &StepHash) -> Result<Naming, Memory>
         requires held { IsHeld self.old }
-        ensures named { IfOk result (λ n. n ≡ naming_in (plan_in hash.now) (live_run run (state_of self.old))) }
+        ensures named { IfOk result
+            (λ n. n ≡ naming_in (plan_in hash.now) (live_run run (state_of self.old))) }
         ensures now { IfOk result (λ n. Becomes (if_new n
             (plan_at (live_run run (state_of self.old)) hash.now (state_of self.old))
             (state_of self.old)) self.old self.new) }
@@ -188,7 +192,8 @@ impl Parts {
 
     fn note_plan(&mut self, run: u64, hash: &StepHash) -> Result<Naming, Memory>
         requires held { IsHeld self.old }
-        ensures named { IfOk result (λ n. n ≡ naming_in (plan_in hash.now) (live_run run (state_of self.old))) }
+        ensures named { IfOk result
+            (λ n. n ≡ naming_in (plan_in hash.now) (live_run run (state_of self.old))) }
         ensures now { IfOk result (λ n. Becomes (if_new n
             (change_run run (with_plan hash.now) (state_of self.old))
             (state_of self.old)) self.old self.new) }
@@ -205,7 +210,8 @@ impl Parts {
         kind: Pending,
     ) -> Result<Naming, Memory>
         requires held { IsHeld self.old }
-        ensures named { IfOk result (λ n. n ≡ naming_in (pend_in hash.now kind) (live_run run (state_of self.old))) }
+        ensures named { IfOk result
+            (λ n. n ≡ naming_in (pend_in hash.now kind) (live_run run (state_of self.old))) }
         ensures now { IfOk result (λ n. Becomes (if_new n
             (change_run run (with_pending hash.now kind) (state_of self.old))
             (state_of self.old)) self.old self.new) }
@@ -216,7 +222,8 @@ impl Parts {
 
     fn sleep(&mut self, run: u64, hash: StepHash, time: Time) -> Result<Naming, Memory>
         requires held { IsHeld self.old }
-        ensures named { IfOk result (λ n. n ≡ naming_in (pend_in hash pending.Sleep) (live_run run (state_of self.old))) }
+        ensures named { IfOk result
+            (λ n. n ≡ naming_in (pend_in hash pending.Sleep) (live_run run (state_of self.old))) }
         ensures now { IfOk result (λ n. Becomes (if_new n
             (sleep_at (live_run run (state_of self.old)) hash time (state_of self.old))
             (state_of self.old)) self.old self.new) }
@@ -266,7 +273,8 @@ impl Parts {
         cond: Option<Expr>,
     ) -> Result<Naming, Memory>
         requires held { IsHeld self.old }
-        ensures named { IfOk result (λ n. n ≡ naming_in (pend_in hash pending.Wait) (live_run run (state_of self.old))) }
+        ensures named { IfOk result
+            (λ n. n ≡ naming_in (pend_in hash pending.Wait) (live_run run (state_of self.old))) }
         ensures now { IfOk result (λ n. Becomes (if_new n
             (wait_at (live_run run (state_of self.old)) hash name timeout cond (state_of self.old))
             (state_of self.old)) self.old self.new) }
@@ -291,7 +299,8 @@ impl Parts {
         cond: Option<Expr>,
     ) -> Result<(), Memory>
         requires held { IsHeld self.old }
-        ensures { OnOk result (Becomes (waited run hash name timeout cond (state_of self.old)) self.old self.new) }
+        ensures { OnOk result
+            (Becomes (waited run hash name timeout cond (state_of self.old)) self.old self.new) }
     {
         let wait = self.new_wait(run, name, timeout, cond)?;
         self.counts.next_entry()?;

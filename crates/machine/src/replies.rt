@@ -154,7 +154,8 @@ impl Parts {
     ) -> Result<(), Memory>
         requires held { IsHeld self.old }
         requires aside { IsAside item (state_of self.old) }
-        ensures { OnOk result (Becomes (retry item after error.now (state_of self.old)) self.old self.new) }
+        ensures { OnOk result
+            (Becomes (retry item after error.now (state_of self.old)) self.old self.new) }
     {
         let run = item.run;
         match self.next_of(&item) {
@@ -166,7 +167,8 @@ impl Parts {
     }
 
     fn next_of(&self, item: &Item) -> Next
-        ensures next { result ≡ next_of (live_run item.now.run (state_of self.now)) item.now (state_of self.now) }
+        ensures next { result
+            ≡ next_of (live_run item.now.run (state_of self.now)) item.now (state_of self.now) }
         ensures room { HasRoom result item.now.attempt }
     {
         let Some(run) = self.runs.live(item.run) else {

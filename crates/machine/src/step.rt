@@ -32,7 +32,8 @@ impl Machine {
     ) -> Result<(Self, Items<Out>), Memory>
         requires accepted { Accepts self input }
         requires ranges { IsInRange input }
-        ensures { IfOk result (λ answer. (answer.0 ≡ (step self input).state) × (answer.1 ≡ (step self input).outs)) }
+        ensures { IfOk result
+            (λ answer. (answer.0 ≡ (step self input).state) × (answer.1 ≡ (step self input).outs)) }
     {
         let Machine { mut parts } = self;
         let outs = parts.step(input, steps)?;
@@ -103,7 +104,8 @@ impl Parts {
         ensures state { OnOk result
             (Becomes (on_events events.now (answering (state_of self.old))).state self.old self.new) }
         ensures outs { OnOk result (outs.new
-            ≡ outs.old ++ ids_answer (on_events events.now (answering (state_of self.old))).numbers ∷ []) }
+            ≡ outs.old ++ ids_answer
+            (on_events events.now (answering (state_of self.old))).numbers ∷ []) }
     {
         let numbers = self.on_events(events, steps)?;
         outs.push(ids_answer(self.alloc, numbers.as_slice())?)

@@ -81,7 +81,8 @@ impl Parts {
 
     fn drop_next_event(&mut self) -> Result<bool, Memory>
         requires held { IsHeld self.old }
-        ensures now { IfOk result (λ more. IsLooked touched_events without_unnamed more self.old self.new) }
+        ensures now { IfOk result
+            (λ more. IsLooked touched_events without_unnamed more self.old self.new) }
         ensures runs { OnOk result (self.new.loose.runs ≡ self.old.loose.runs) }
     {
         let Some(event) = self.loose.events.first() else {

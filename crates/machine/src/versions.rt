@@ -112,11 +112,13 @@ impl Versions {
     /// The functions of an application take the place of those that it had, which are retired. Want of memory, and of
     /// numbers, spends the functions.
     pub(crate) fn register(&mut self, app: App, versions: u64) -> Result<Change, Memory>
-        requires given { AllByRecursion (λ f. f.version ≤ versions) (self.old.current ++ self.old.retired) }
+        requires given { AllByRecursion (λ f. f.version ≤ versions)
+            (self.old.current ++ self.old.retired) }
         ensures current { OnOk result (self.new.current ≡ registered app versions self.old.current) }
         ensures retired { OnOk result (self.new.retired
             ≡ insert_all (filter (λ f. not (stays app f)) self.old.current) self.old.retired) }
-        ensures versions { IfOk result (λ c. c.versions ≡ versions + length (new_in app self.old.current)) }
+        ensures versions { IfOk result
+            (λ c. c.versions ≡ versions + length (new_in app self.old.current)) }
         ensures modified { IfOk result (λ c. c.modified
             ≡ is_modified self.old.current (registered app versions self.old.current)) }
     {

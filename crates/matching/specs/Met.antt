@@ -13,7 +13,8 @@ passes test (Some e) = test e
 
 -- the numbers of the entries that an event meets
 abbrev pub met_numbers : {X : Type 0} → (X → Condition) → (X → ℕ) → Truth → Event → List X → List ℕ
-met_numbers condition number truth event es = map number (filter (λ e. is_met truth event (condition e)) es)
+met_numbers condition number truth event es =
+    map number (filter (λ e. is_met truth event (condition e)) es)
 
 -- the runs of the entries that an event meets, each once, in order
 abbrev pub met_runs : {X : Type 0} → (X → Condition) → (X → ℕ) → Truth → Event → List X → List ℕ

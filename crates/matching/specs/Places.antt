@@ -43,7 +43,8 @@ is_near values event p = bytes_eq p.0.name event.name && is_value p.1 (value_for
 
 abbrev pub field_cmp : Field → Field → Ordering
 field_cmp a b =
-    ordering_then (slice_cmp nat_cmp a.name b.name) (option_cmp (slice_cmp (slice_cmp nat_cmp)) a.path b.path)
+    ordering_then (slice_cmp nat_cmp a.name b.name)
+    (option_cmp (slice_cmp (slice_cmp nat_cmp)) a.path b.path)
 
 abbrev pub place_cmp : Field × List ℕ → Field × List ℕ → Ordering
 place_cmp a b = ordering_then (field_cmp a.0 b.0) (slice_cmp nat_cmp a.1 b.1)
@@ -74,4 +75,5 @@ IsNext from keys None =
 IsNext from keys (Some f) =
     (f.name ≡ from.name) × (is_lt (field_cmp f from) ≡ false)
     × (list_any (λ q. is_eq (field_cmp f q.0.0)) keys ≡ true)
-    × AllByRecursion (λ q. (is_lt (field_cmp q.0.0 from) ≡ true) ⊎ (is_gt (field_cmp f q.0.0) ≡ false)) keys
+    × AllByRecursion
+    (λ q. (is_lt (field_cmp q.0.0 from) ≡ true) ⊎ (is_gt (field_cmp f q.0.0) ≡ false)) keys

@@ -240,7 +240,8 @@ fn is_entry_met<E: Conditional, M: Matcher, L: Ledger>(
 ) -> Result<bool, Memory>
     ensures met { IfOk result (λ b. b
         ≡ is_met (M.is_true matcher.now) event.now (E.condition_of entry.now)) }
-    ensures asked { steps.new ≤ steps.old + (if asks event.now (E.condition_of entry.now) then 1 else 0) }
+    ensures asked { steps.new ≤ steps.old
+        + (if asks event.now (E.condition_of entry.now) then 1 else 0) }
 {
     if entry.name() != event.name.as_slice() {
         return Ok(false);

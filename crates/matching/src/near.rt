@@ -20,7 +20,8 @@ pub fn near<M: PathMatcher>(
     matcher: &M,
 ) -> Result<BTreeSet<u64>, Memory>
     ensures { IfOk result (λ s. (n : ℕ) →
-        has_number s.keys n ≡ list_any (is_wanted (M.value_of matcher.now) event.now n) places.now.keys) }
+        has_number s.keys n
+        ≡ list_any (is_wanted (M.value_of matcher.now) event.now n) places.now.keys) }
 {
     let mut found = BTreeSet::new(alloc);
     let mut start = first_place(alloc, event.name.as_slice())?;

@@ -17,14 +17,17 @@ pub record IsSorted {X : Type 0} (rank number : X → ℕ) (entries : List ((ℕ
   pub ordered : IsInOrder rank number (values_of entries)
 
 -- A look-up has the place of each key.
-pub record IsPlaced {X K P : Type 0} (eq : K → K → Bool) (key : X → K) (place : X → P) (es : List X) (look : K → Option P) : Type 0 where
+pub record IsPlaced {X K P : Type 0} (eq : K → K → Bool) (key : X → K) (place : X → P) (es : List X)
+    (look : K → Option P) : Type 0 where
   pub apart : AreApartBy eq key es
   pub placed : (k : K) → look k ≡ option_map place (find (by_key eq key k) es)
 
 -- A map has the entries, and a second one the rank of each number.
-pub record IsKept {X : Type 0} (rank number : X → ℕ) (entries : List ((ℕ × ℕ) × X)) (ranks : List (ℕ × ℕ)) : Type 0 where
+pub record IsKept {X : Type 0} (rank number : X → ℕ) (entries : List ((ℕ × ℕ) × X))
+    (ranks : List (ℕ × ℕ)) : Type 0 where
   pub sorted : IsSorted rank number entries
-  pub placed : IsPlaced (λ a b. a == b) number rank (values_of entries) (λ n. lookup (is_at (nat_cmp n)) ranks)
+  pub placed : IsPlaced (λ a b. a == b) number rank (values_of entries)
+      (λ n. lookup (is_at (nat_cmp n)) ranks)
 
 -- ---- numbers in groups
 
@@ -37,12 +40,15 @@ has_part cmp part p None = false
 has_part cmp part p (Some e) = is_at (cmp p) (part e)
 
 -- A set has a part and the number of each entry.
-pub record IsListed {X K : Type 0} (cmp : K → K → Ordering) (part : X → K) (number : X → ℕ) (es : List X) (pairs : List (K × ℕ)) : Type 0 where
+pub record IsListed {X K : Type 0} (cmp : K → K → Ordering) (part : X → K) (number : X → ℕ) (es : List X)
+    (pairs : List (K × ℕ)) : Type 0 where
   pub apart : AreApart number es
-  pub listed : (p : K) (n : ℕ) → list_any (is_at (group_cmp cmp (p, n))) pairs ≡ has_part cmp part p (find (has number n) es)
+  pub listed : (p : K) (n : ℕ)
+      → list_any (is_at (group_cmp cmp (p, n))) pairs ≡ has_part cmp part p (find (has number n) es)
 
 -- An entry of a run was taken out.
-pub record IsTakenOf {X : Type 0} (part number : X → ℕ) (run : ℕ) (old : List X) (e : X) (new : List X) : Type 0 where
+pub record IsTakenOf {X : Type 0} (part number : X → ℕ) (run : ℕ) (old : List X) (e : X)
+    (new : List X) : Type 0 where
   pub its : run ≡ part e
   pub held : find (has number (number e)) old ≡ Some e
   pub left : new ≡ without number (number e) old

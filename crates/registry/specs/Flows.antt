@@ -158,7 +158,8 @@ abbrev pub cancel_of : Data → Result CancelEntry Flaw
 cancel_of d = if is_object d then cancel_in d else Err flaw.Limit
 
 abbrev pub listed_cancels : Items → Result (List CancelEntry) Flaw
-listed_cancels ds = if has_count 0 most_cancels ds then read_behind (λ _. cancel_of) [] ds else Err flaw.Limit
+listed_cancels ds =
+    if has_count 0 most_cancels ds then read_behind (λ _. cancel_of) [] ds else Err flaw.Limit
 
 abbrev pub cancels_by : Option Items → Result (List CancelEntry) Flaw
 cancels_by None = Err flaw.Limit

@@ -18,9 +18,11 @@ found_or fault (Some value) = Ok value
 found_or fault None = Err fault
 
 -- the items, each read with those before it and put behind them; the first fault ends it
-unfoldable pub read_behind : {A E : Type 0} → (List A → Data → Result A E) → List A → Items → Result (List A) E
+unfoldable pub read_behind : {A E : Type 0} → (List A → Data → Result A E) → List A → Items
+    → Result (List A) E
 read_behind read so_far no_items = Ok so_far
-read_behind read so_far (item d ds) = read so_far d >>= λ value. read_behind read (so_far ++ value ∷ []) ds
+read_behind read so_far (item d ds) =
+    read so_far d >>= λ value. read_behind read (so_far ++ value ∷ []) ds
 
 -- ## Parts of a value
 

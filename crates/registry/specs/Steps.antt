@@ -25,7 +25,9 @@ abbrev pub default_port : ℕ
 default_port = 80
 
 abbrev pub is_callable : Parts → Bool
-is_callable u = bytes_eq u.scheme (codes "http") && not (has_credentials u) && nat_le (length (serialize u)) most_bytes
+is_callable u =
+    bytes_eq u.scheme (codes "http") && not (has_credentials u)
+    && nat_le (length (serialize u)) most_bytes
 
 -- where calls go; the fragment is dropped
 abbrev pub address_with : Parts → List ℕ → Address
@@ -37,7 +39,8 @@ address_of u (Some host) = if is_callable u then Ok (address_with u host) else E
 
 abbrev pub callable : Parts → Result Address Flaw
 callable u =
-    if bytes_eq u.scheme (codes "https") then Err HttpsUrl else address_of u (option_map host_text (nonempty_host u))
+    if bytes_eq u.scheme (codes "https") then Err HttpsUrl
+    else address_of u (option_map host_text (nonempty_host u))
 
 abbrev pub of_parsed : Parsed Parts → Result Address Flaw
 of_parsed (Ok u) = callable u
@@ -48,7 +51,9 @@ text_address None = Err Url
 text_address (Some text) = of_parsed (parse_url None text)
 
 abbrev pub url_in : Option Data → Option (List ℕ)
-url_in step = option_and_then as_str (option_and_then (part (codes "url")) (option_and_then (part (codes "runtime")) step))
+url_in step =
+    option_and_then as_str
+    (option_and_then (part (codes "url")) (option_and_then (part (codes "runtime")) step))
 
 -- the address that `steps.step.runtime.url` names
 unfoldable pub address_in : Data → Result Address Flaw
@@ -69,7 +74,8 @@ attempts_of (Some attempts) = found_or Retries (whole 0 most_retries attempts)
 
 abbrev pub retries_of : Option Data → Result ℕ Flaw
 retries_of None = Ok default_retries
-retries_of (Some retries) = if is_object retries then attempts_of (part (codes "attempts") retries) else Err Retries
+retries_of (Some retries) =
+    if is_object retries then attempts_of (part (codes "attempts") retries) else Err Retries
 
 abbrev pub retries_member : Data → Option Data
 retries_member d = option_and_then (part (codes "retries")) (step_in d)

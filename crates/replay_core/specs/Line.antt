@@ -47,7 +47,9 @@ event_named name id = record { name = name; content = codes "{}"; id = id; ts = 
 abbrev pub event_of : List ℕ → Option EventIn
 event_of text =
     let name = (split_word text).word in
-    option_and_then (λ id. if is_name name && is_name id then Some (event_named name (id_of id)) else None) (split_word text).rest
+    option_and_then
+    (λ id. if is_name name && is_name id then Some (event_named name (id_of id)) else None)
+    (split_word text).rest
 
 -- `MS EVENT NAME ID`, from its name on
 abbrev pub event_line : ℕ → List ℕ → Option Line

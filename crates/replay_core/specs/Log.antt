@@ -60,17 +60,21 @@ StopsLog added old new fault.Memory = StandsForEither (payloads_in old) added ne
 
 -- The accepted lines of what was left are added. Where memory was missing, nothing was said, or the last
 -- line was run.
-abbrev pub FinishesLog : List (List ℕ) → MemoryRig → MemoryRig → List ℕ → List ℕ → Result (Unit {0}) LineFault → Type 0
-FinishesLog added old new before said (Ok done) = StandsFor (payloads_in old ++ added) new.a.bytes × IsOnDisk new
+abbrev pub FinishesLog : List (List ℕ) → MemoryRig → MemoryRig → List ℕ → List ℕ
+    → Result (Unit {0}) LineFault → Type 0
+FinishesLog added old new before said (Ok done) =
+    StandsFor (payloads_in old ++ added) new.a.bytes × IsOnDisk new
 FinishesLog added old new before said (Err (fault.Outside line)) = (added ≡ []) × (new ≡ old)
 FinishesLog added old new before said (Err fault.Spent) = (added ≡ []) × (new ≡ old)
 FinishesLog added old new before said (Err fault.Memory) =
-    ((said ≡ before) × StandsFor (payloads_in old) new.a.bytes) ⊎ StandsFor (payloads_in old ++ added) new.a.bytes
+    ((said ≡ before) × StandsFor (payloads_in old) new.a.bytes)
+    ⊎ StandsFor (payloads_in old ++ added) new.a.bytes
 
 -- ## A script
 
 -- Broken off: file A has the accepted ones of so many lines, and no more than their text was printed.
-pub record IsCutOff (form : Form) (IsBegun : List ℕ → Type 0) (lines : List (List ℕ)) (file : List ℕ) : Type 0 where
+pub record IsCutOff (form : Form) (IsBegun : List ℕ → Type 0) (lines : List (List ℕ))
+    (file : List ℕ) : Type 0 where
   pub count : ℕ
   pub stands : StandsFor (accepted_lines (start form) (take count lines)) file
   pub printed : IsBegun (text_of (on_lines (start form) (take count lines)))
@@ -79,7 +83,8 @@ pub record IsCutOff (form : Form) (IsBegun : List ℕ → Type 0) (lines : List 
 abbrev pub IsCutShort : Form → (List ℕ → Type 0) → List (List ℕ) → List ℕ → Type 0
 IsCutShort form IsBegun lines file =
     IsCutOff form IsBegun lines file
-    ⊎ (StandsFor (accepted_lines (start form) lines) file × IsBegun (finish (on_lines (start form) lines)).text)
+    ⊎ (StandsFor (accepted_lines (start form) lines) file
+    × IsBegun (finish (on_lines (start form) lines)).text)
 
 -- What file A has when a run of these lines ends: all that were accepted, or, where the run was broken off,
 -- those of the first lines, and then no more than the text of these was printed. A test says that a prefix
@@ -98,10 +103,13 @@ HoldsOf form IsBegun script file end = Holds form IsBegun (all_lines (lines_of s
 
 -- no more than a prefix of a text was printed, but for what has gathered
 abbrev pub GathersSome : Outgoing → Outgoing → List ℕ → List ℕ → Type 0
-GathersSome old new said text = GathersPrefix old new said text ⊎ (FailsWriting text old new × (said ≡ []))
+GathersSome old new said text =
+    GathersPrefix old new said text ⊎ (FailsWriting text old new × (said ≡ []))
 
 -- what file A holds of a run that ended so, but for writing what has gathered
-pub record HasLogged (form : Form) (in0 : Incoming) (out0 out1 : Outgoing) (said : List ℕ) (old new : MemoryRig) (end : ReplayEnd) : Type 0 where
-  pub holds : (flow : Flow) → in0.flow ≡ Some flow → HoldsOf form (GathersSome out0 out1 said) flow.left new.a.bytes end
+pub record HasLogged (form : Form) (in0 : Incoming) (out0 out1 : Outgoing) (said : List ℕ)
+    (old new : MemoryRig) (end : ReplayEnd) : Type 0 where
+  pub holds : (flow : Flow) → in0.flow ≡ Some flow
+      → HoldsOf form (GathersSome out0 out1 said) flow.left new.a.bytes end
   pub synced : IsOnDisk new ⊎ (end ≡ Memory)
   pub starved : (new.counts.starved ≡ old.counts.starved) ⊎ (end ≡ Memory)

@@ -16,4 +16,5 @@ pub record IsRead (old : Flow) (bytes : List ℕ) (new : Option Flow) : Type 0 w
 -- These bytes were read at once, where the source tells: none only at its end. No fault was counted.
 pub record ReadsOn (bytes : List ℕ) (old new : Incoming) : Type 0 where
   pub faults : new.faults ≡ old.faults
-  pub told : (flow : Flow) → old.flow ≡ Some flow → IsRead flow bytes new.flow × (bytes ≡ [] → flow.left ≡ [])
+  pub told : (flow : Flow) → old.flow ≡ Some flow → IsRead flow bytes new.flow
+      × (bytes ≡ [] → flow.left ≡ [])

@@ -80,18 +80,21 @@ ids_text events = join_with_byte 44 (map event_id events)
 -- the run that a call is of, and its events
 abbrev pub brief_run : ℕ → ℕ → ℕ → List ℕ → List ℕ
 brief_run run attempt steps events =
-    codes " run " ++ decimal run ++ codes " attempt " ++ decimal attempt ++ codes " steps " ++ decimal steps
+    codes " run " ++ decimal run ++ codes " attempt " ++ decimal attempt ++ codes " steps "
+    ++ decimal steps
     ++ codes " events " ++ ids_text events ++ codes "\n"
 
 -- a call by what it is of
 abbrev pub brief_call : ℕ → List ℕ → List ℕ → ℕ → ℕ → ℕ → List ℕ → List ℕ
 brief_call call function target run attempt steps events =
-    codes "call " ++ decimal call ++ codes " " ++ function ++ codes " " ++ target ++ brief_run run attempt steps events
+    codes "call " ++ decimal call ++ codes " " ++ function ++ codes " " ++ target
+    ++ brief_run run attempt steps events
 
 -- a call with its request
 abbrev pub full_call : ℕ → List ℕ → ℕ → List ℕ → List ℕ → List ℕ
 full_call call host port path body =
-    codes "call " ++ decimal call ++ codes " POST http://" ++ host ++ port_text port ++ path ++ codes " " ++ body
+    codes "call " ++ decimal call ++ codes " POST http://" ++ host ++ port_text port ++ path ++ codes " "
+    ++ body
     ++ codes "\n"
 
 abbrev pub printed : Form → Out → List ℕ

@@ -17,7 +17,8 @@ RunsAs outcome (Err fault.Memory) = Unit {0}
 
 -- the same, with what was said before it and after it; where it broke off it said nothing
 abbrev pub Says : Outcome → List ℕ → List ℕ → Result Logged LineFault → Type 0
-Says outcome old new (Ok next) = (text : List ℕ) × (outcome ≡ Goes next.progress text) × (new ≡ old ++ text)
+Says outcome old new (Ok next) =
+    (text : List ℕ) × (outcome ≡ Goes next.progress text) × (new ≡ old ++ text)
 Says outcome old new (Err (fault.Outside line)) = (outcome ≡ Stops (Outside line) []) × (new ≡ old)
 Says outcome old new (Err fault.Spent) = (outcome ≡ Stops Spent []) × (new ≡ old)
 Says outcome old new (Err fault.Memory) = new ≡ old
@@ -34,6 +35,7 @@ SaysPrefix text old new = (said : List ℕ) × (more : List ℕ) × (text ≡ sa
 -- a run with this outcome was ended by the end line, or broke off
 abbrev pub Finishes : Transcript → List ℕ → List ℕ → Result (Unit {0}) LineFault → Type 0
 Finishes whole old new (Ok done) = (whole.ending ≡ Finished) × (new ≡ old ++ whole.text)
-Finishes whole old new (Err (fault.Outside line)) = (whole ≡ transcript_of [] (Outside line)) × (new ≡ old)
+Finishes whole old new (Err (fault.Outside line)) =
+    (whole ≡ transcript_of [] (Outside line)) × (new ≡ old)
 Finishes whole old new (Err fault.Spent) = (whole ≡ transcript_of [] Spent) × (new ≡ old)
 Finishes whole old new (Err fault.Memory) = SaysPrefix whole.text old new

@@ -44,7 +44,8 @@ Gathers old new said text = (front : List ℕ) × (new ≡ after_write front old
 
 -- the same of a prefix of the text
 abbrev pub GathersPrefix : Outgoing → Outgoing → List ℕ → List ℕ → Type 0
-GathersPrefix old new said text = (before : List ℕ) × (more : List ℕ) × Gathers old new said before × (text ≡ before ++ more)
+GathersPrefix old new said text =
+    (before : List ℕ) × (more : List ℕ) × Gathers old new said before × (text ≡ before ++ more)
 
 -- some of what had gathered was written, and this is left
 abbrev pub Writes : Outgoing → Outgoing → List ℕ → List ℕ → Type 0
@@ -53,7 +54,8 @@ Writes old new said left = (part : List ℕ) × (new ≡ after_write part old) �
 -- ## How a run ended
 
 -- At a fault of the source each line that was ended before it is in the grammar, and all its lines are printed.
-pub record IsBroken (form : Form) (IsPrinted : List ℕ → Type 0) (flow : Flow) (new_flow : Option Flow) : Type 0 where
+pub record IsBroken (form : Form) (IsPrinted : List ℕ → Type 0) (flow : Flow)
+    (new_flow : Option Flow) : Type 0 where
   pub bytes : List ℕ
   pub read : IsRead flow bytes new_flow
   pub progress : Progress
@@ -63,7 +65,8 @@ pub record IsBroken (form : Form) (IsPrinted : List ℕ → Type 0) (flow : Flow
 
 -- What was read of a script and printed, by how its run ended, where it is said of a text what it is that
 -- the whole of it, a prefix of it, and a prefix at a fault of the sink is printed.
-abbrev pub EndsAs : Form → (List ℕ → Type 0) → (List ℕ → Type 0) → (List ℕ → Type 0) → Flow → Option Flow → ReplayEnd → Type 0
+abbrev pub EndsAs : Form → (List ℕ → Type 0) → (List ℕ → Type 0) → (List ℕ → Type 0) → Flow → Option Flow
+    → ReplayEnd → Type 0
 EndsAs form IsPrinted IsBegun IsFailed flow new_flow Done =
     ((transcript form flow.left).ending ≡ Finished)
     × IsRead flow flow.left new_flow
@@ -73,18 +76,21 @@ EndsAs form IsPrinted IsBegun IsFailed flow new_flow (Script line) =
 EndsAs form IsPrinted IsBegun IsFailed flow new_flow NumbersSpent =
     ((transcript form flow.left).ending ≡ Spent) × IsPrinted (transcript form flow.left).text
 EndsAs form IsPrinted IsBegun IsFailed flow new_flow ReadFault = IsBroken form IsPrinted flow new_flow
-EndsAs form IsPrinted IsBegun IsFailed flow new_flow WriteFault = IsFailed (transcript form flow.left).text
+EndsAs form IsPrinted IsBegun IsFailed flow new_flow WriteFault =
+    IsFailed (transcript form flow.left).text
 EndsAs form IsPrinted IsBegun IsFailed flow new_flow Memory = IsBegun (transcript form flow.left).text
 
 -- where nothing gathers
 abbrev pub Replays : Form → Outgoing → Outgoing → Flow → Option Flow → ReplayEnd → Type 0
 Replays form old new flow new_flow end =
-    EndsAs form (λ text. new ≡ after_write text old) (PutsPrefix old new) (λ text. FailsWriting text old new) flow new_flow end
+    EndsAs form (λ text. new ≡ after_write text old) (PutsPrefix old new)
+    (λ text. FailsWriting text old new) flow new_flow end
 
 -- where this has gathered
 abbrev pub Gathered : Form → Outgoing → Outgoing → List ℕ → Flow → Option Flow → ReplayEnd → Type 0
 Gathered form old new said flow new_flow end =
-    EndsAs form (Gathers old new said) (GathersPrefix old new said) (λ text. FailsWriting text old new) flow new_flow end
+    EndsAs form (Gathers old new said) (GathersPrefix old new said)
+    (λ text. FailsWriting text old new) flow new_flow end
 
 -- nothing has gathered where a call of the source or the sink failed
 abbrev pub IsSilentAt : ReplayEnd → List ℕ → Type 0
@@ -96,7 +102,8 @@ IsSilentAt NumbersSpent said = Unit {0}
 IsSilentAt Memory said = Unit {0}
 
 -- a run that ended so, but for writing what has gathered
-pub record HasRun (form : Form) (in0 in1 : Incoming) (out0 out1 : Outgoing) (said : List ℕ) (end : ReplayEnd) : Type 0 where
+pub record HasRun (form : Form) (in0 in1 : Incoming) (out0 out1 : Outgoing) (said : List ℕ)
+    (end : ReplayEnd) : Type 0 where
   pub replays : (flow : Flow) → in0.flow ≡ Some flow → Gathered form out0 out1 said flow in1.flow end
   pub reads : in1.faults ≡ read_faults end in0.faults
   pub writes : out1.faults ≡ write_faults end out0.faults

@@ -101,7 +101,8 @@ fn push_counts(run: u64, attempt: u8, steps: u64, text: &mut Bytes) -> Result<()
 
 // ` events evt-1,evt-2` and the end of the line.
 fn push_events(events: &[u64], text: &mut Bytes) -> Result<(), Memory>
-    ensures { OnOk result (text.new ≡ text.old ++ codes " events " ++ ids_text events.now ++ codes "\n") }
+    ensures { OnOk result
+        (text.new ≡ text.old ++ codes " events " ++ ids_text events.now ++ codes "\n") }
 {
     text.extend_from_slice(b" events ")?;
     push_ids(events, text)?;

@@ -140,7 +140,8 @@ impl Progress {
     // A line that is answered, and changes nothing.
     fn say(self, out: &Out) -> Result<Ran, Memory>
         ensures { IfOk result
-            (λ ran. (ran.progress ≡ self) × (ran.text ≡ printed self.form out.now) × (ran.accepted ≡ false)) }
+            (λ ran. (ran.progress ≡ self) × (ran.text ≡ printed self.form out.now)
+            × (ran.accepted ≡ false)) }
     {
         let text = out_text(self.alloc, self.form, out)?;
         Ok(Ran {

@@ -69,7 +69,8 @@ put_at at (byte ∷ bytes) file = overwritten at (byte ∷ bytes) (file ++ repli
 -- with the first half of each write, rounded down, and no cut
 abbrev pub halved : List Change → List ℕ → List ℕ
 halved [] file = file
-halved (Wrote at count bytes before ∷ newer) file = halved newer (put_at at (take (length bytes / 2) bytes) file)
+halved (Wrote at count bytes before ∷ newer) file =
+    halved newer (put_at at (take (length bytes / 2) bytes) file)
 halved (Cut removed ∷ newer) file = halved newer file
 
 -- what a crash leaves of the file

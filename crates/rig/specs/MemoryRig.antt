@@ -77,7 +77,8 @@ with_failing failed rig = record rig { failing = rig.failing ++ failed ∷ [] }
 
 -- after these bytes were put into a file, as part of a write of so many
 abbrev pub wrote_on : Side → ℕ → ℕ → List ℕ → MemoryRig → MemoryRig
-wrote_on side at count bytes rig = with_memory_file side (wrote at count bytes (memory_file side rig)) rig
+wrote_on side at count bytes rig =
+    with_memory_file side (wrote at count bytes (memory_file side rig)) rig
 
 -- after a file was cut, and after it was brought to the disk
 abbrev pub cut_on : Side → ℕ → MemoryRig → MemoryRig
@@ -99,7 +100,8 @@ after_reading true reading rig = record rig {
   readings = drop 1 rig.readings;
   last = reading;
 }
-after_reading false reading rig = record rig { telling = false; readings = drop 1 rig.readings; last = reading }
+after_reading false reading rig =
+    record rig { telling = false; readings = drop 1 rig.readings; last = reading }
 
 abbrev pub after_now : MemoryRig → MemoryRig
 after_now rig = after_reading (nat_lt 0 rig.room) (next_reading rig.readings rig.last) rig
@@ -107,7 +109,8 @@ after_now rig = after_reading (nat_lt 0 rig.room) (next_reading rig.readings rig
 -- how the next call on the disk is set to fail
 abbrev pub set_fault : MemoryRig → Option FailForm
 set_fault rig =
-    option_map (λ (f : FailedCall). f.form) (find (λ (f : FailedCall). f.call == one_more rig.calls) rig.failing)
+    option_map (λ (f : FailedCall). f.form)
+    (find (λ (f : FailedCall). f.call == one_more rig.calls) rig.failing)
 
 -- how the next call on the disk fails, where it is one that changes nothing there: behind a crash each does
 abbrev pub look_fault : MemoryRig → Option FailForm
@@ -163,7 +166,8 @@ pub record Ends {T : Type 0} (fault : Option FailForm) (value : T) (left : Memor
   pub leaves : new ≡ counted fault left
 
 -- the same, or it found no memory and has done nothing but count that
-abbrev pub EndsOrStarves : Option FailForm → MemoryRig → MemoryRig → Result (Unit {0}) DiskFailed → MemoryRig → Type 0
+abbrev pub EndsOrStarves : Option FailForm → MemoryRig → MemoryRig → Result (Unit {0}) DiskFailed
+    → MemoryRig → Type 0
 EndsOrStarves fault left idle result new =
     Ends fault tt left result new ⊎ ((result ≡ Err record {}) × (new ≡ starved idle))
 
@@ -191,8 +195,10 @@ read_fault count rig = if count == 0 then Some Nothing else look_fault rig
 -- It gives what there is and fits.
 pub record Reads (side : Side) (at room : ℕ) (buffer : List ℕ)
     (result : Result ℕ DiskFailed) (old new : MemoryRig) : Type 0 where
-  pub ends : let count = read_count side at room old in Ends (read_fault count old) count (after_look old) result new
-  pub front : IfOk result (λ count. take count buffer ≡ take count (drop at (memory_file side old).bytes))
+  pub ends : let count = read_count side at room old
+      in Ends (read_fault count old) count (after_look old) result new
+  pub front : IfOk result
+      (λ count. take count buffer ≡ take count (drop at (memory_file side old).bytes))
 
 -- a call that has no place does nothing and fails
 abbrev pub if_placed : Bool → Option FailForm → Option FailForm
@@ -224,7 +230,8 @@ after_write side fault at bytes rig =
 abbrev pub Writes : Side → ℕ → List ℕ → Result (Unit {0}) DiskFailed → MemoryRig → MemoryRig → Type 0
 Writes side at bytes result old new =
     let fault = write_fault side at (length bytes) old in
-    EndsOrStarves fault (after_write side fault at bytes (after_change old)) (after_change old) result new
+    EndsOrStarves fault (after_write side fault at bytes (after_change old))
+    (after_change old) result new
 
 -- how a cut to this length fails: where the file is shorter it has no place
 abbrev pub cut_fault : Side → ℕ → MemoryRig → Option FailForm

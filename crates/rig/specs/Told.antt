@@ -54,7 +54,8 @@ pub record OnFile (side : Side) (change : File → File → Type 0) (old new : M
   pub file : change (file_of side old.disk) (file_of side new.disk)
 
 -- a write, a cut and a sync of one file
-abbrev pub WritesFile : {E : Type 0} → Side → Type 0 → ℕ → List ℕ → Result (Unit {0}) E → Moment → Moment → Type 0
+abbrev pub WritesFile : {E : Type 0} → Side → Type 0 → ℕ → List ℕ → Result (Unit {0}) E → Moment → Moment
+    → Type 0
 WritesFile side steady at bytes result = OnFile side (IsWritten steady at bytes result)
 
 abbrev pub CutsFile : {E : Type 0} → Side → Type 0 → ℕ → Result (Unit {0}) E → Moment → Moment → Type 0

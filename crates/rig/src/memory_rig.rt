@@ -146,7 +146,8 @@ impl MemRig {
 
     /// Lets the call on the disk of this number fail, counted from 1 over all of the rig's.
     pub fn fail_at(&mut self, call: u64, form: FailForm) -> Result<(), Memory>
-        ensures ok { OnOk result (self.new ≡ with_failing (record { call = call; form = form }) self.old) }
+        ensures ok { OnOk result
+            (self.new ≡ with_failing (record { call = call; form = form }) self.old) }
         ensures err { OnErr result (self.new ≡ self.old) }
     {
         self.failing.push(FailedCall { call, form })?;
@@ -536,7 +537,8 @@ impl Rig for MemRig {
     }
 
     fn write(&mut self, file: Side, at: u64, bytes: &[u8]) -> Result<(), DiskFailed>
-        ensures told { RigCall (WritesFile file (IsSteady self.old) at bytes.now result) self.old self.new }
+        ensures told { RigCall
+            (WritesFile file (IsSteady self.old) at bytes.now result) self.old self.new }
         ensures tells { StillTells rig_tells self.old self.new }
         ensures steady { IsSteady self.old → IsSteady self.new }
         ensures fits { OnOk result (at + length bytes.now < 9223372036854775808) }

@@ -39,7 +39,8 @@ pub trait Rig {
     /// Takes the two files of this directory, which must be there. A file that isn't there is made,
     /// empty.
     fn attach(&mut self, dir: &str) -> Result<(), DiskFailed>
-        ensures told { OneCall tells self.old self.new (AsksAttach dir.now (counts self.old) (counts self.new)) }
+        ensures told { OneCall tells self.old self.new
+            (AsksAttach dir.now (counts self.old) (counts self.new)) }
         ensures tells { StillTells tells self.old self.new }
         ensures steady { steady self.old → steady self.new }
         ensures counts { CountsDisk result (counts self.old) (counts self.new) };
@@ -66,7 +67,8 @@ pub trait Rig {
     /// Writes the bytes from this offset on.
     fn write(&mut self, file: Side, at: u64, bytes: &[u8]) -> Result<(), DiskFailed>
         requires { WhereTold tells self.old (λ now. at ≤ length (reads_of file now)) }
-        ensures told { OneCall tells self.old self.new (WritesFile file (steady self.old) at bytes.now result) }
+        ensures told { OneCall tells self.old self.new
+            (WritesFile file (steady self.old) at bytes.now result) }
         ensures tells { StillTells tells self.old self.new }
         ensures steady { steady self.old → steady self.new }
         ensures fits { OnOk result (at + length bytes.now < 9223372036854775808) }

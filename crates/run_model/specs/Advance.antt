@@ -51,7 +51,8 @@ pub record Next : Type 0 where
   pub entry : Timed
 
 abbrev pub comes_before : Next → Next → Bool
-comes_before a b = nat_lt a.due b.due || ((a.due == b.due) && nat_lt (number_of a.entry) (number_of b.entry))
+comes_before a b =
+    nat_lt a.due b.due || ((a.due == b.due) && nat_lt (number_of a.entry) (number_of b.entry))
 
 abbrev pub earlier : Next → Option Next → Option Next
 earlier a None = Some a
@@ -88,7 +89,8 @@ make_found None w s = s
 make_found (Some f) w s = make_run f (windows.events_of w) None s
 
 abbrev pub end_window : Window → State → State
-end_window w s = make_found (function_at (windows.version_of w) s) w (without_window (windows.number_of w) s)
+end_window w s =
+    make_found (function_at (windows.version_of w) s) w (without_window (windows.number_of w) s)
 
 -- the child of an invocation goes on
 abbrev pub fire : Timed → State → State

@@ -54,7 +54,8 @@ end_run r status s = record s {
 -- ## What its parent records
 
 abbrev pub without_invocation_of : Parent → State → State
-without_invocation_of p s = record s { invocations = filter (λ i. not (is_invocation_of p i)) s.invocations }
+without_invocation_of p s =
+    record s { invocations = filter (λ i. not (is_invocation_of p i)) s.invocations }
 
 -- the step waits no more, where the invocation had an end of its own
 abbrev pub record_at_parent : Discovery → Parent → List ℕ → Bool → State → State

@@ -109,7 +109,8 @@ abbrev pub stepped : List Out → Settled → Stepped
 stepped before settled = record { state = tidied settled.state; outs = before ++ settled.outs }
 
 abbrev pub settled_after : List Out → Stepped → Stepped
-settled_after hangs acted = stepped (hangs ++ acted.outs) (settle (record { state = acted.state; outs = [] }))
+settled_after hangs acted =
+    stepped (hangs ++ acted.outs) (settle (record { state = acted.state; outs = [] }))
 
 abbrev pub acted_after : Input → Advanced → Stepped
 acted_after input a = settled_after (map (λ call. Hang call) a.hangs) (act input a.state)

@@ -18,7 +18,8 @@ due_next (Some next) = Some next.due
 -- the least of the dues of timed entries, the dues of items that are to come, and the moments at which
 -- throttles let due items start whose cells are free
 unfoldable pub next_moment : State → Option ℕ
-next_moment s = sooner (due_next (least (timed s))) (next_item (issue_entries s) s.starts s.moment s.items)
+next_moment s =
+    sooner (due_next (least (timed s))) (next_item (issue_entries s) s.starts s.moment s.items)
 
 -- ## Views
 

@@ -92,7 +92,10 @@ goes_on taking s = record taking { state = s }
 -- the run has no room for one step more, and fails
 abbrev pub stops : Run → Taking → Taking
 stops r taking =
-    record taking { state = fail_run r (error_object (codes "too many steps")) taking.state; stopped = true }
+    record taking {
+      state = fail_run r (error_object (codes "too many steps")) taking.state;
+      stopped = true;
+    }
 
 -- what a new name makes, and nothing where it is known
 abbrev pub noted : Noting → Run → (State → State) → Taking → Taking
@@ -212,7 +215,8 @@ invoke_with f r name event t s =
 abbrev pub unknown_function : List ℕ
 unknown_function = error_result (error_object (codes "unknown function"))
 
-abbrev pub invoke_found : Option FunctionEntry → Run → List ℕ → Option (List ℕ) → Option Time → State → State
+abbrev pub invoke_found : Option FunctionEntry → Run → List ℕ → Option (List ℕ) → Option Time → State
+    → State
 invoke_found None r name payload t s = record_result r.number name unknown_function s
 invoke_found (Some f) r name payload t s =
     invoke_with f r name (event_with (invoked_event payload) s) t (pend pending.Invocation name r s)

@@ -49,7 +49,8 @@ accept event id s = follow at_once event (cancel_by event (add_event event (reme
 
 -- A repeated event is answered with the number of the first, and changes nothing.
 abbrev pub answer_event : EventIn → Option ℕ → Answering → Answering
-answer_event event (Some number) answering = record answering { numbers = answering.numbers ++ number ∷ [] }
+answer_event event (Some number) answering =
+    record answering { numbers = answering.numbers ++ number ∷ [] }
 answer_event event None answering = record {
   state = accept (event_with event answering.state) event.id answering.state;
   numbers = answering.numbers ++ (answering.state.events + 1) ∷ [];

@@ -22,7 +22,8 @@ abbrev pub texts_of : Run → State → List (List ℕ)
 texts_of r s = map (λ n. text_or_none (text_of n s)) r.events
 
 abbrev pub body_of : Run → Item → State → List ℕ
-body_of r i s = call_body (run_text r.moment r.number) i.attempt r.planned (texts_of r s) r.steps.recorded
+body_of r i s =
+    call_body (run_text r.moment r.number) i.attempt r.planned (texts_of r s) r.steps.recorded
 
 abbrev pub call_with : Function → Run → Item → ℕ → State → Out
 call_with f r i call s =

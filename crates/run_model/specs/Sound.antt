@@ -46,7 +46,8 @@ ArePairwise R (x ∷ xs) = AllByRecursion (R x) xs × ArePairwise R xs
 
 -- each number is greater than those before it, and none is over a count
 abbrev pub RiseTo : ℕ → List ℕ → Type 0
-RiseTo count numbers = ArePairwise (λ n later. n < later) numbers × AllByRecursion (λ n. n ≤ count) numbers
+RiseTo count numbers =
+    ArePairwise (λ n later. n < later) numbers × AllByRecursion (λ n. n ≤ count) numbers
 
 -- no two have the same text in a part
 abbrev pub AreApart : {X : Type 0} → (X → List ℕ) → List X → Type 0
@@ -128,7 +129,8 @@ pub record KeepsNamed (s : State) : Type 0 where
 
 -- each stands in one place: a version is current or retired, a run has ended once or not at all
 pub record StandsOnce (s : State) : Type 0 where
-  pub versions : AllByRecursion (λ f. is_in (version_of f) (map version_of s.retired) ≡ false) s.functions
+  pub versions : AllByRecursion
+      (λ f. is_in (version_of f) (map version_of s.retired) ≡ false) s.functions
   pub ended : ArePairwise (λ (e later : EndedRun). e.run ≢ later.run) s.ended
   pub live : AllByRecursion (λ (r : Run). is_in r.number (ended_numbers s) ≡ false) s.live
   pub closing : AllByRecursion (λ (r : Run). is_in r.number (ended_numbers s) ≡ true) s.closing
@@ -172,7 +174,8 @@ pub record AwaitsOnce (s : State) : Type 0 where
 -- the end of a sleep, a wait or an invocation is recorded: its run has not ended, and its step waits still
 pub record Wakes (s : State) : Type 0 where
   pub sleeps : AllByRecursion (λ (e : Sleep). is_pending_in e.hash (live_run e.run s) ≡ true) s.sleeps
-  pub waits : AllByRecursion (λ (e : Waiting). is_pending_in e.hash (live_run e.wait.run s) ≡ true) s.waits
+  pub waits : AllByRecursion
+      (λ (e : Waiting). is_pending_in e.hash (live_run e.wait.run s) ≡ true) s.waits
   pub invocations :
       AllByRecursion (λ (e : Invocation). is_pending_in e.hash (live_run e.run s) ≡ true) s.invocations
 
@@ -182,7 +185,8 @@ items_for s run target = filter (is_item_of run target) (s.items ++ map (λ (i :
 
 -- an item finds out what comes next, or its target was planned or is recorded
 abbrev pub is_aimed : Run → Item → Bool
-is_aimed r i = bytes_eq i.target step_target || is_planned i.target r.steps || is_recorded i.target r.steps
+is_aimed r i =
+    bytes_eq i.target step_target || is_planned i.target r.steps || is_recorded i.target r.steps
 
 -- a planned name has one item or one open call, and nothing else
 abbrev pub IsCalledOnce : State → Run → List ℕ → Type 0
@@ -194,7 +198,8 @@ IsCalledOnce s r name =
 pub record CallsPlanned (s : State) : Type 0 where
   pub planned : AllByRecursion (λ (r : Run). AllByRecursion (IsCalledOnce s r) r.steps.planned) s.live
   pub items : AllByRecursion (λ (i : Item). IfLive s i.run (λ r. is_aimed r i ≡ true)) s.items
-  pub issues : AllByRecursion (λ (i : Issue). IfLive s i.item.run (λ r. is_aimed r i.item ≡ true)) s.issues
+  pub issues : AllByRecursion
+      (λ (i : Issue). IfLive s i.item.run (λ r. is_aimed r i.item ≡ true)) s.issues
 
 -- ## Going on
 
@@ -338,7 +343,8 @@ is_same_window w other = windows.is_of (windows.version_of w) (windows.value_of 
 pub record HasWindows (s : State) : Type 0 where
   pub apart : ArePairwise (λ w later. is_same_window w later ≡ false) s.windows
   pub rules : AllByRecursion
-      (λ w. IfSome (function_at (windows.version_of w) s) (λ f. HasRule w (rule_for w f.function))) s.windows
+      (λ w. IfSome (function_at (windows.version_of w) s)
+      (λ f. HasRule w (rule_for w f.function))) s.windows
 
 -- ## Limits
 
@@ -412,7 +418,8 @@ IsCallOf i r = (i.score ≡ score_of r) × ((i.cells ≡ r.cells) × (i.start �
 
 -- a condition has the number of its run's first event, and the bucket that this gives
 abbrev pub IsConditionOf : State → ℕ → Option Bucket → Option (List ℕ) → Run → Type 0
-IsConditionOf s first bucket cond r = (first ≡ first_of r.events) × (bucket ≡ bucket_of cond (first_text r s))
+IsConditionOf s first bucket cond r =
+    (first ≡ first_of r.events) × (bucket ≡ bucket_of cond (first_text r s))
 
 abbrev pub run_at : ℕ → State → Option Run
 run_at number s = find (λ (r : Run). number == r.number) (all_runs s)
@@ -421,8 +428,10 @@ pub record RepeatsRuns (s : State) : Type 0 where
   pub items : AllByRecursion (λ (i : Item). IfLive s i.run (IsItemOf i)) s.items
   pub issues : AllByRecursion (λ (i : Issue). IfSome (run_at i.item.run s) (IsCallOf i.item)) s.issues
   pub waits : AllByRecursion
-      (λ (w : Waiting). IfLive s w.wait.run (IsConditionOf s w.wait.first w.wait.bucket w.wait.cond)) s.waits
-  pub rules : AllByRecursion (λ (e : Rule). IfLive s e.run (IsConditionOf s e.first e.bucket e.cond)) s.rules
+      (λ (w : Waiting).
+      IfLive s w.wait.run (IsConditionOf s w.wait.first w.wait.bucket w.wait.cond)) s.waits
+  pub rules : AllByRecursion
+      (λ (e : Rule). IfLive s e.run (IsConditionOf s e.first e.bucket e.cond)) s.rules
 
 -- an id that tells no repeated event any more, or a throttle that lets each start, isn't there
 pub record KeepsTelling (s : State) : Type 0 where

@@ -12,7 +12,8 @@ ghost use Rattle.std.specs.Prelude.{List, [], ◌≡◌, ◌≤◌, true};
 /// In each state that is reached, for each open call and each of its cells, no more calls that were made up to it are
 /// open in the cell than the call's limit there.
 pub fn limits_are_kept()
-    ensures { (limits : Limits) (inputs : List Input) → KeepLimits [] (issue_entries (fold limits inputs)) }
+    ensures { (limits : Limits) (inputs : List Input)
+        → KeepLimits [] (issue_entries (fold limits inputs)) }
 {}
 
 /// No queued item is for a step that its run recorded: so it is after each input.
@@ -30,7 +31,8 @@ pub fn recorded_steps_are_not_called()
 /// In each state that is reached, no name of a run that has not ended is recorded twice, and none that is recorded
 /// waits.
 pub fn steps_are_recorded_once()
-    ensures { (limits : Limits) (inputs : List Input) → AllByRecursion RecordsOnce (fold limits inputs).live }
+    ensures { (limits : Limits) (inputs : List Input)
+        → AllByRecursion RecordsOnce (fold limits inputs).live }
 {}
 
 /// Nor has a run that is there more names than a thousand.
@@ -42,6 +44,7 @@ pub fn runs_have_room_for_names()
 /// Each open call is of a run that is there: it has not ended, or it has and is kept until its calls end.
 pub fn calls_are_of_runs()
     ensures { (limits : Limits) (inputs : List Input) →
-        AllByRecursion (λ (i : Issue). is_in i.item.run (numbers_of (all_runs (fold limits inputs))) ≡ true)
+        AllByRecursion
+        (λ (i : Issue). is_in i.item.run (numbers_of (all_runs (fold limits inputs))) ≡ true)
         (fold limits inputs).issues }
 {}

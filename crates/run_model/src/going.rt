@@ -22,7 +22,8 @@ pub fn what_falls_due_is_recorded()
 /// A run that is to find out what comes next has an item or an open call for it.
 pub fn wanted_runs_find_out()
     ensures { (limits : Limits) (inputs : List Input) →
-        AllByRecursion (λ (r : Run). r.wanted ≡ true → has_discovery (fold limits inputs) r.number ≡ true)
+        AllByRecursion
+        (λ (r : Run). r.wanted ≡ true → has_discovery (fold limits inputs) r.number ≡ true)
         (fold limits inputs).live }
 {}
 

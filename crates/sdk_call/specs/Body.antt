@@ -13,7 +13,8 @@ call_path path query id target = path ++ codes "?" ++ call_query query id target
 abbrev pub context : List ℕ → ℕ → Bool → List ℕ
 context run_id attempt planned =
     codes "{\"run_id\":\"" ++ run_id ++ codes "\",\"attempt\":" ++ decimal attempt
-    ++ codes ",\"disable_immediate_execution\":" ++ (if planned then codes "true" else codes "false") ++ codes ",\"use_api\":false}"
+    ++ codes ",\"disable_immediate_execution\":" ++ (if planned then codes "true" else codes "false")
+    ++ codes ",\"use_api\":false}"
 
 -- texts parted by commas (44)
 abbrev pub parted : List (List ℕ) → List ℕ
@@ -30,12 +31,14 @@ first_of (event ∷ events) = event
 abbrev pub call_body : List ℕ → ℕ → Bool → List (List ℕ) → List StepEntry → List ℕ
 call_body run_id attempt planned events steps =
     codes "{\"ctx\":" ++ context run_id attempt planned ++ codes ",\"event\":" ++ first_of events
-    ++ codes ",\"events\":[" ++ parted events ++ codes "],\"steps\":{" ++ parted (map step_member steps) ++ codes "},\"use_api\":false}"
+    ++ codes ",\"events\":[" ++ parted events ++ codes "],\"steps\":{" ++ parted (map step_member steps)
+    ++ codes "},\"use_api\":false}"
 
 -- ## Of a call
 
 abbrev pub path_of : CallParts → List ℕ
-path_of parts = call_path parts.function.now.path parts.function.now.query parts.function.now.id parts.target.now
+path_of parts =
+    call_path parts.function.now.path parts.function.now.query parts.function.now.id parts.target.now
 
 abbrev pub events_of : CallParts → List (List ℕ)
 events_of parts = map (λ event. event.now) parts.events.now

@@ -29,10 +29,13 @@ name_of piece = take (until 61 piece) piece
 
 -- each call has its own function and target
 abbrev pub is_kept : List ℕ → Bool
-is_kept piece = not (bytes_eq (name_of piece) (codes "fnId") || bytes_eq (name_of piece) (codes "stepId"))
+is_kept piece =
+    not (bytes_eq (name_of piece) (codes "fnId") || bytes_eq (name_of piece) (codes "stepId"))
 
 abbrev pub call_query : List ℕ → List ℕ → List ℕ → List ℕ
-call_query query id target = join_with_byte 38 (filter is_kept (pieces query) ++ (codes "fnId=" ++ id) ∷ (codes "stepId=" ++ target) ∷ [])
+call_query query id target =
+    join_with_byte 38
+    (filter is_kept (pieces query) ++ (codes "fnId=" ++ id) ∷ (codes "stepId=" ++ target) ∷ [])
 
 -- pieces with a `&` behind each
 abbrev pub ended : List (List ℕ) → List ℕ

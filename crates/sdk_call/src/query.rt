@@ -35,9 +35,11 @@ fn push_kept(text: &mut Bytes, query: &[u8]) -> Result<(), Memory>
 
 /// Adds the first piece of what is left of a query, where it is kept, and gives what is left behind it.
 fn push_piece<'a>(text: &mut Bytes, rest: &'a [u8]) -> Result<Option<&'a [u8]>, Memory>
-    ensures text { IfOk result (λ left. text.new ++ ended (filter is_kept (pieces_left (option_map (λ t. t.now) left))) ≡
+    ensures text { IfOk result
+        (λ left. text.new ++ ended (filter is_kept (pieces_left (option_map (λ t. t.now) left))) ≡
         text.old ++ ended (filter is_kept (cut_at 38 rest.now))) }
-    ensures fewer { IfOk result (λ left. bytes_left (option_map (λ t. t.now) left) < length rest.now + 1) }
+    ensures fewer { IfOk result
+        (λ left. bytes_left (option_map (λ t. t.now) left) < length rest.now + 1) }
 {
     let end = until(rest, b'&');
     let (piece, behind) = rest.split_at(end);
@@ -47,7 +49,8 @@ fn push_piece<'a>(text: &mut Bytes, rest: &'a [u8]) -> Result<Option<&'a [u8]>, 
 
 /// Adds a piece, where it is kept, with a `&` behind it.
 fn push_own(text: &mut Bytes, piece: &[u8]) -> Result<(), Memory>
-    ensures { OnOk result (text.new ≡ (if is_kept piece.now then text.old ++ piece.now ++ 38 ∷ [] else text.old)) }
+    ensures { OnOk result
+        (text.new ≡ (if is_kept piece.now then text.old ++ piece.now ++ 38 ∷ [] else text.old)) }
 {
     if is_kept(piece) {
         text.extend_from_slice(piece)?;

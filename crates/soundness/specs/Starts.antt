@@ -45,7 +45,8 @@ acted_on s input = (act input (advance (moment_at (reading input) s) (count_inpu
 
 -- those of a step
 abbrev pub made_in : State → Input → List Made
-made_in s input = made_by (length (acted_on s input).items) (record { state = acted_on s input; outs = [] })
+made_in s input =
+    made_by (length (acted_on s input).items) (record { state = acted_on s input; outs = [] })
 
 abbrev pub made_after : State → List Input → List Made
 made_after s [] = []
@@ -84,7 +85,8 @@ is_start cell None = false
 is_start cell (Some other) = is_cell cell other
 
 abbrev pub starts_of : Cell → List Made → List ℕ
-starts_of cell calls = map (λ (m : Made). m.moment) (filter (λ (m : Made). is_start cell (start_of m.run)) calls)
+starts_of cell calls =
+    map (λ (m : Made). m.moment) (filter (λ (m : Made). is_start cell (start_of m.run)) calls)
 
 -- the moments of all starts of the cell in a history
 abbrev pub starts : Limits → List Input → Cell → List ℕ

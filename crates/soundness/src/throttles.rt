@@ -12,12 +12,14 @@ ghost use Rattle.std.specs.Prelude.{◌≡◌, List, length};
 /// Whatever inputs there were, all starts of a throttle's cell keep to its limit, period and burst: of any two, the
 /// later is no sooner than the starts from the earlier on allow.
 pub fn throttles_hold()
-    ensures { (limits : Limits) (inputs : List Input) (cell : Cell) → KeepsPace cell (starts limits inputs cell) }
+    ensures { (limits : Limits) (inputs : List Input) (cell : Cell)
+        → KeepsPace cell (starts limits inputs cell) }
 {}
 
 /// The same as a throttle is asked: each start was let by all starts before it.
 pub fn starts_are_let()
-    ensures { (limits : Limits) (inputs : List Input) (cell : Cell) → AreLet cell (starts limits inputs cell) }
+    ensures { (limits : Limits) (inputs : List Input) (cell : Cell)
+        → AreLet cell (starts limits inputs cell) }
 {}
 
 /// What a state keeps of a cell is enough: its one number stands for all starts there were, or it has none, and then

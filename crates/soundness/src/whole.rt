@@ -12,5 +12,6 @@ ghost use Rattle.std.specs.Prelude.{◌<◌, ◌^◌, List};
 /// ranges, and none names an id twice: `registry` reads no others. Entries have numbers below 2^64.
 pub fn histories_are_sound()
     ensures { (limits : Limits) (inputs : List Input) → AllByRecursion IsInRange inputs →
-        AllByRecursion IsFormed inputs → (fold limits inputs).entries < 2 ^ 64 → IsSound (fold limits inputs) }
+        AllByRecursion IsFormed inputs → (fold limits inputs).entries < 2 ^ 64
+        → IsSound (fold limits inputs) }
 {}

@@ -37,5 +37,8 @@ pub record IsRun (moment number : ℕ) : Type 0 where
 
 -- no two runs share an id
 abbrev pub AreDistinct : Type 0
-AreDistinct = (moment number other_moment other_number : ℕ) → IsRun moment number → IsRun other_moment other_number →
-    run_text moment number ≡ run_text other_moment other_number → (moment ≡ other_moment) × (number ≡ other_number)
+AreDistinct =
+    (moment number other_moment other_number : ℕ) → IsRun moment number
+    → IsRun other_moment other_number →
+    run_text moment number ≡ run_text other_moment other_number → (moment ≡ other_moment)
+    × (number ≡ other_number)

@@ -41,7 +41,8 @@ fn uuid_of(moment: u64, number: u64) -> Uuid
 pub fn run_number(text: &[u8]) -> Option<(u64, u64)>
     ensures value { result ≡ run_of_text text.now }
     // the UUID of the text is then the run's own ..
-    ensures own { IfSome result (λ run. IsRun run.0 run.1 × (uuid_value text.now ≡ Some (run_value run.0 run.1))) }
+    ensures own { IfSome result
+        (λ run. IsRun run.0 run.1 × (uuid_value text.now ≡ Some (run_value run.0 run.1))) }
     // .. and each text of a run's own UUID names that run
     ensures found { (moment number : ℕ) → IsRun moment number →
         uuid_value text.now ≡ Some (run_value moment number) → result ≡ Some (moment, number) }

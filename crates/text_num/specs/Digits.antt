@@ -39,7 +39,8 @@ behind_digits (c ∷ cs) = if is_ascii_digit c then behind_digits cs else c ∷ 
 unfoldable pub fraction_of : List ℕ → Option (List ℕ × List ℕ)
 fraction_of text =
     if slice_index text 0 == 46
-    then (if nat_lt 0 (length (digits_front (drop 1 text))) then Some (digits_front (drop 1 text), behind_digits (drop 1 text)) else None)
+    then (if nat_lt 0 (length (digits_front (drop 1 text)))
+    then Some (digits_front (drop 1 text), behind_digits (drop 1 text)) else None)
     else Some ([], text)
 
 -- how a fraction is written

@@ -79,7 +79,8 @@ is_milli c cs = (c == 109) && (slice_index cs 0 == 115)
 -- the unit at the front of a text, and what follows it
 unfoldable pub unit_of : List ℕ → Option (TimeUnit × List ℕ)
 unit_of [] = None
-unit_of (c ∷ cs) = if is_milli c cs then Some (Milli, drop 1 cs) else option_map (λ unit. (unit, cs)) (unit_of_letter c)
+unit_of (c ∷ cs) =
+    if is_milli c cs then Some (Milli, drop 1 cs) else option_map (λ unit. (unit, cs)) (unit_of_letter c)
 
 -- a part with its unit, where its digits have the lengths of one
 abbrev pub part_with : List ℕ → List ℕ → TimeUnit × List ℕ → Option (Part × List ℕ)
@@ -89,7 +90,10 @@ part_with whole fraction unit =
 
 -- the part at the front of a text, and what follows it
 unfoldable pub part_of : List ℕ → Option (Part × List ℕ)
-part_of text = option_and_then (λ fraction. option_and_then (part_with (digits_front text) fraction.0) (unit_of fraction.1)) (fraction_of (behind_digits text))
+part_of text =
+    option_and_then
+    (λ fraction. option_and_then (part_with (digits_front text) fraction.0) (unit_of fraction.1))
+    (fraction_of (behind_digits text))
 
 -- its milliseconds, as far as they matter: one past the longest duration is as good as more
 abbrev pub capped_part : Part × List ℕ → ℕ × List ℕ
@@ -99,7 +103,9 @@ capped_part part = (min (part_millis part.0) (longest + 1), part.1)
 unfoldable pub parts_of : ℕ → List ℕ → Option (List Part)
 parts_of most [] = Some []
 parts_of zero (c ∷ cs) = None
-parts_of (suc most) (c ∷ cs) = option_and_then (λ part. option_map (λ parts. part.0 ∷ parts) (parts_of most part.1)) (part_of (c ∷ cs))
+parts_of (suc most) (c ∷ cs) =
+    option_and_then (λ part. option_map (λ parts. part.0 ∷ parts) (parts_of most part.1))
+    (part_of (c ∷ cs))
 
 -- the milliseconds of parts behind those counted so far
 abbrev pub millis_after : ℕ → Option (List Part) → Result ℕ NumFault

@@ -73,5 +73,7 @@ number_with negative whole fraction exponent =
 
 unfoldable pub number_of : List ℕ → Option JsonNumber
 number_of text = option_and_then
-    (λ fraction. option_and_then (number_with (has_minus text) (digits_front (behind_sign text)) fraction.0) (exponent_of fraction.1))
+    (λ fraction.
+    option_and_then (number_with (has_minus text) (digits_front (behind_sign text)) fraction.0)
+    (exponent_of fraction.1))
     (fraction_of (behind_digits (behind_sign text)))

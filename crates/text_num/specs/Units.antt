@@ -73,4 +73,5 @@ number_of_units units = record {
 
 unfoldable pub units_text : ℤ → List ℕ
 units_text units =
-    sign_text (is_negative units) ++ decimal (unsigned_abs units / 10 ^ 18) ++ fraction_text (fraction_digits 18 (unsigned_abs units % 10 ^ 18))
+    sign_text (is_negative units) ++ decimal (unsigned_abs units / 10 ^ 18)
+    ++ fraction_text (fraction_digits 18 (unsigned_abs units % 10 ^ 18))

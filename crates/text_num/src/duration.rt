@@ -57,7 +57,8 @@ impl TimeUnit {
 pub fn read_duration(text: &[u8]) -> Result<u64, NumFault>
     ensures value { result ≡ duration_of text.now }
     // any parts that write the text give the value ..
-    ensures sum { (parts : List Part) → IsDuration text.now parts → result ≡ at_most longest (parts_millis parts) }
+    ensures sum { (parts : List Part) → IsDuration text.now parts
+        → result ≡ at_most longest (parts_millis parts) }
     // .. and where there are none, it isn't a number
     ensures parts { (result ≡ Err NotANumber) ⊎ ((parts : List Part) × IsDuration text.now parts) }
 {
@@ -81,7 +82,8 @@ pub fn read_duration(text: &[u8]) -> Result<u64, NumFault>
 
 /// The milliseconds of the part at the front of a text, or `LONGEST + 1` where they are more, and what follows the part.
 fn read_part(text: &[u8]) -> Option<(u64, &[u8])>
-    ensures { option_map capped_part (part_of text.now) ≡ option_map (λ part. (part.0, part.1.now)) result }
+    ensures { option_map capped_part (part_of text.now)
+        ≡ option_map (λ part. (part.0, part.1.now)) result }
 {
     let (whole, rest) = split_digits(text);
     let (fraction, rest) = split_fraction(rest)?;
@@ -116,7 +118,8 @@ fn part_millis(whole: &[u8], fraction: &[u8], unit: TimeUnit) -> u64
     requires fraction { all_digits fraction.now ≡ true }
     requires short { length fraction.now ≤ 9 }
     ensures { result
-        ≡ min (part_millis record { whole = whole.now; fraction = fraction.now; unit = unit }) (longest + 1) }
+        ≡ min (part_millis record { whole = whole.now; fraction = fraction.now; unit = unit })
+        (longest + 1) }
 {
     let over = u128::from(LONGEST) + 1;
     let scale = 10u128.pow(fraction.len() as u32);

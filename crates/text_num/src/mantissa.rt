@@ -41,7 +41,8 @@ impl Mantissa {
         requires low { 48 ≤ digit }
         requires high { digit ≤ 57 }
         requires zeros { self.zeros ≤ 2 ^ 66 }
-        ensures number { (number : ℕ) → IsMantissa number self → IsReading (number * 10 + (digit - 48)) result }
+        ensures number { (number : ℕ) → IsMantissa number self
+            → IsReading (number * 10 + (digit - 48)) result }
         ensures zeros { IfSome result (λ m. m.zeros ≤ self.zeros + 1) }
     {
         if digit == b'0' {
@@ -71,7 +72,8 @@ impl Mantissa {
 
 /// The value with zeros behind it, where that is below 10^38.
 fn times_power(value: u128, zeros: u128) -> Option<u128>
-    ensures { result ≡ (if nat_lt (value * 10 ^ zeros) (10 ^ 38) then Some (value * 10 ^ zeros) else None) }
+    ensures { result
+        ≡ (if nat_lt (value * 10 ^ zeros) (10 ^ 38) then Some (value * 10 ^ zeros) else None) }
 {
     if value == 0 {
         return Some(0);

@@ -19,7 +19,9 @@ pub struct Number<'a> {
 impl<'a> Number<'a> {
     pub fn read(text: &'a [u8]) -> Option<Number<'a>>
         ensures value { option_map number_seen result ≡ number_of text.now }
-        ensures digits { IfSome result (λ n. (all_digits n.whole.now ≡ true) × (all_digits n.fraction.now ≡ true) × (all_digits n.exponent.now ≡ true)) }
+        ensures digits { IfSome result
+            (λ n. (all_digits n.whole.now ≡ true) × (all_digits n.fraction.now ≡ true)
+            × (all_digits n.exponent.now ≡ true)) }
     {
         let (negative, unsigned) = split_sign(text);
         let (whole, rest) = split_digits(unsigned);

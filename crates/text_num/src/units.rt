@@ -21,7 +21,8 @@ const GREAT_EXPONENT: u128 = 1 << 100;
 pub fn read_units(text: &[u8]) -> Result<i128, NumFault>
     ensures value { result ≡ units_of text.now }
     // any number that writes the text gives the value ..
-    ensures units { (number : JsonNumber) → IsJsonNumber text.now number → result ≡ units_of_number number }
+    ensures units { (number : JsonNumber) → IsJsonNumber text.now number
+        → result ≡ units_of_number number }
     // .. and where there is none, it isn't a number
     ensures number { (result ≡ Err NotANumber) ⊎ ((number : JsonNumber) × IsJsonNumber text.now number) }
     ensures bound { IfOk result (λ units. unsigned_abs units < 10 ^ 38) }
@@ -80,8 +81,10 @@ pub fn put_units(units: i128, out: &mut [u8; 64]) -> usize
     ensures len { result ≡ length (units_text units) }
     ensures read_back { units_of (units_text units) ≡ Ok units }
     // each other number without an exponent that is worth the same has a longer text
-    ensures shortest { (text : List ℕ) (number : JsonNumber) → IsJsonNumber text number → number.mark ≡ [] →
-        units_of_number number ≡ Ok units → (text ≡ units_text units) ⊎ (length (units_text units) < length text) }
+    ensures shortest { (text : List ℕ) (number : JsonNumber) → IsJsonNumber text number
+        → number.mark ≡ [] →
+        units_of_number number ≡ Ok units → (text ≡ units_text units)
+        ⊎ (length (units_text units) < length text) }
 {
     let magnitude = units.unsigned_abs();
     let at = put_sign(units, out);
@@ -90,7 +93,8 @@ pub fn put_units(units: i128, out: &mut [u8; 64]) -> usize
 }
 
 fn put_sign(units: i128, out: &mut [u8; 64]) -> usize
-    ensures text { let sign = sign_text (is_negative units) in out.new ≡ sign ++ drop (length sign) out.old }
+    ensures text { let sign = sign_text (is_negative units)
+        in out.new ≡ sign ++ drop (length sign) out.old }
     ensures end { result ≡ length (sign_text (is_negative units)) }
 {
     if units.is_negative() {
@@ -104,7 +108,8 @@ fn put_sign(units: i128, out: &mut [u8; 64]) -> usize
 fn put_whole(whole: u128, out: &mut [u8; 64], at: usize) -> usize
     requires whole { whole < 10 ^ 20 }
     requires room { at ≤ 1 }
-    ensures text { out.new ≡ take at out.old ++ decimal whole ++ drop (at + length (decimal whole)) out.old }
+    ensures text { out.new ≡ take at out.old ++ decimal whole
+        ++ drop (at + length (decimal whole)) out.old }
     ensures end { result ≡ at + length (decimal whole) }
 {
     let mut buffer = itoa::Buffer::new();

@@ -28,7 +28,8 @@ abbrev pub entry_at : Placed → ℕ × ℕ → Option StartEntry
 entry_at entries place = lookup (is_at (pair_cmp place)) entries
 
 -- A cell has a place exactly where its entry stands there, and the numbers of places are below the next.
-pub record AreLinked (place : Cell → Option (ℕ × ℕ)) (entry : ℕ × ℕ → Option StartEntry) (next : ℕ) : Type 0 where
+pub record AreLinked (place : Cell → Option (ℕ × ℕ)) (entry : ℕ × ℕ → Option StartEntry)
+    (next : ℕ) : Type 0 where
   pub stands : (c : Cell) (p : ℕ × ℕ) → place c ≡ Some p → entry p ≡ Some (entry_of (c, p))
   pub placed : (p : ℕ × ℕ) (e : StartEntry) → entry p ≡ Some e → place e.cell ≡ Some p
   pub below : (p : ℕ × ℕ) (e : StartEntry) → entry p ≡ Some e → p.1 < next
@@ -39,7 +40,8 @@ pub record IsIndexed (places : Places) (entries : Placed) (next : ℕ) : Type 0 
 
 -- each place has the entry of its cell
 abbrev pub AreFound : Placed → Places → Type 0
-AreFound entries places = AllByRecursion (λ (p : Cell × (ℕ × ℕ)). entry_at entries p.1 ≡ Some (entry_of p)) places
+AreFound entries places =
+    AllByRecursion (λ (p : Cell × (ℕ × ℕ)). entry_at entries p.1 ≡ Some (entry_of p)) places
 
 -- ---- what calls do
 

@@ -40,7 +40,8 @@ pub(crate) fn settle(
     cell: &Cell,
     place: Place,
 ) -> Result<Option<Place>, Memory>
-    ensures ok { IfOk result (λ left. Settles cell.now place left places.old.entries places.new.entries) }
+    ensures ok { IfOk result
+        (λ left. Settles cell.now place left places.old.entries places.new.entries) }
     ensures err { OnErr result (places.new.entries ≡ places.old.entries) }
 {
     let key = cell.clone()?;

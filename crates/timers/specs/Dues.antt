@@ -46,6 +46,7 @@ as_due number run a = due_at a.due (number a.entry) (run a.entry)
 abbrev pub seen_as : {X Y : Type 0} → (X → Y) → DueEntry X → DueEntry Y
 seen_as f a = record { due = a.due; entry = f a.entry }
 
-abbrev pub earlier_of : {X : Type 0} → (X → ℕ) → Option (DueEntry X) → Option (DueEntry X) → Option (DueEntry X)
+abbrev pub earlier_of : {X : Type 0} → (X → ℕ) → Option (DueEntry X) → Option (DueEntry X)
+    → Option (DueEntry X)
 earlier_of number None b = b
 earlier_of number (Some a) b = earlier number a b

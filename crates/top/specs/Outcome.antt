@@ -36,7 +36,8 @@ status_of end.NumbersSpent = NumbersSpent
 status_of end.Memory = Memory
 
 -- A script's lines were written, as far as it ran, and then the last line.
-pub record IsReplay (form : Form) (flow : Flow) (new_flow : Option Flow) (old new : Outgoing) (answer : Status) : Type 0 where
+pub record IsReplay (form : Form) (flow : Flow) (new_flow : Option Flow) (old new : Outgoing)
+    (answer : Status) : Type 0 where
   pub end : ReplayEnd
   pub status : answer ≡ status_of end
   pub mid : Outgoing

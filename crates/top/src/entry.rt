@@ -30,7 +30,8 @@ pub fn run<R: Rig, I: Source, O: Sink>(
 ) -> Status
     // The words decide whether anything is run.
     ensures usage { result ≡ Status.Usage → replay_words words.now ≡ None }
-    ensures refused { replay_words words.now ≡ None → IsRefused result (O.outgoing out.old) (O.outgoing out.new) }
+    ensures refused { replay_words words.now ≡ None
+        → IsRefused result (O.outgoing out.old) (O.outgoing out.new) }
     ensures unread { form_of words.now ≡ None → I.incoming input.new ≡ I.incoming input.old }
 
     // What is written of a script, and what of it was read.
@@ -60,7 +61,8 @@ fn run_replay<I: Source, O: Sink>(
     out: &mut O,
 ) -> Status
     ensures usage { result ≡ Status.Usage → replay_words words.now ≡ None }
-    ensures refused { replay_words words.now ≡ None → IsRefused result (O.outgoing out.old) (O.outgoing out.new) }
+    ensures refused { replay_words words.now ≡ None
+        → IsRefused result (O.outgoing out.old) (O.outgoing out.new) }
     ensures unread { form_of words.now ≡ None → I.incoming input.new ≡ I.incoming input.old }
     ensures replay { (form : Form) → form_of words.now ≡ Some form →
         (flow : Flow) → (I.incoming input.old).flow ≡ Some flow →
