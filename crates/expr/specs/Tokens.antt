@@ -185,7 +185,8 @@ pub record Placed : Type 0 where
 -- the tokens of what is left of a text of this length; `most` bounds their number
 abbrev pub placed_at : ℕ → List ℕ → (List ℕ → List Placed) → List Placed
 placed_at whole [] on = []
-placed_at whole (c ∷ cs) on = record { start = whole - length (c ∷ cs); token = (cut_at c cs).token } ∷ on (cut_at c cs).rest
+placed_at whole (c ∷ cs) on =
+    record { start = whole - length (c ∷ cs); token = (cut_at c cs).token } ∷ on (cut_at c cs).rest
 
 abbrev pub placed_from : ℕ → ℕ → List ℕ → List Placed
 placed_from whole zero bytes = []

@@ -48,7 +48,8 @@ new_in app entries = new_beside (filter (stays app) entries) app.name app.functi
 -- each function takes the next version
 abbrev pub numbered : List ℕ → ℕ → List Function → List FunctionEntry
 numbered name versions [] = []
-numbered name versions (f ∷ fs) = record { version = versions + 1; app = name; function = f } ∷ numbered name (versions + 1) fs
+numbered name versions (f ∷ fs) =
+    record { version = versions + 1; app = name; function = f } ∷ numbered name (versions + 1) fs
 
 -- the function takes a new version
 abbrev pub is_new : App → List FunctionEntry → Function → Bool

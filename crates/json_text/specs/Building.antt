@@ -11,7 +11,8 @@ use Rattle.json_text.specs.declared.entry.Entry.{Entry}
 use Rattle.json_text.specs.declared.kind.Kind.{Kind}
 
 abbrev pub new_entry : Kind → ℕ → ℕ → ℕ → Entry
-new_entry kind start stop next = record { kind = kind; count = 0; start = start; stop = stop; next = next }
+new_entry kind start stop next =
+    record { kind = kind; count = 0; start = start; stop = stop; next = next }
 
 -- the entry of a bracket that closes here
 abbrev pub ended_entry : Entry → ℕ → ℕ → ℕ → Entry

@@ -161,7 +161,8 @@ impl Parts {
     fn end_sleep(&mut self, number: u64) -> Result<(), Memory>
         requires held { IsHeld self.old }
         ensures { OnOk result (Becomes
-            (sleep_over (find (has sleep_number number) self.old.sleeps) (state_of self.old)) self.old self.new) }
+            (sleep_over (find (has sleep_number number) self.old.sleeps) (state_of self.old))
+            self.old self.new) }
     {
         let Some(sleep) = self.take_sleep(number) else {
             return Ok(());
@@ -182,7 +183,8 @@ impl Parts {
     fn end_wait(&mut self, number: u64) -> Result<(), Memory>
         requires held { IsHeld self.old }
         ensures { OnOk result (Becomes
-            (wait_over (find (has waiting_number number) self.old.waits) (state_of self.old)) self.old self.new) }
+            (wait_over (find (has waiting_number number) self.old.waits) (state_of self.old))
+            self.old self.new) }
     {
         let Some(waiting) = self.take_wait(number) else {
             return Ok(());
@@ -196,7 +198,8 @@ impl Parts {
     fn end_invocation(&mut self, number: u64) -> Result<(), Memory>
         requires held { IsHeld self.old }
         ensures { OnOk result (Becomes (invocation_over
-            (find (has invocation_number number) self.old.invocations) (state_of self.old)) self.old self.new) }
+            (find (has invocation_number number) self.old.invocations) (state_of self.old))
+            self.old self.new) }
     {
         let Some(invocation) = self.take_invocation(number) else {
             return Ok(());
@@ -220,7 +223,8 @@ impl Parts {
         requires held { IsHeld self.old }
         requires numbers { AreApart number_of self.old.windows }
         ensures { OnOk result (Becomes
-            (window_over (find (has_number number) self.old.windows) (state_of self.old)) self.old self.new) }
+            (window_over (find (has_number number) self.old.windows) (state_of self.old))
+            self.old self.new) }
     {
         let Some(fired) = self.take_window(number)? else {
             return Ok(());

@@ -42,7 +42,8 @@ impl Parts {
     pub(crate) fn complete_run(&mut self, run: u64, output: &[u8]) -> Result<(), Memory>
         requires held { IsHeld self.old }
         ensures { OnOk result (Becomes
-            (complete_at (live_run run (state_of self.old)) output.now (state_of self.old)) self.old self.new) }
+            (complete_at (live_run run (state_of self.old)) output.now (state_of self.old))
+            self.old self.new) }
     {
         let parent = self.end_run(run, RunStatus::Completed)?;
         let result = data_result(self.alloc, output)?;
@@ -58,7 +59,8 @@ impl Parts {
     ) -> Result<(), Memory>
         requires held { IsHeld self.old }
         ensures { OnOk result (Becomes
-            (fail_at (live_run run (state_of self.old)) error.now (state_of self.old)) self.old self.new) }
+            (fail_at (live_run run (state_of self.old)) error.now (state_of self.old))
+            self.old self.new) }
     {
         let content = self.failed_content(run, error)?;
         let parent = self.end_run(run, RunStatus::Failed)?;
@@ -85,7 +87,8 @@ impl Parts {
         requires held { IsHeld self.old }
         ensures parent { IfOk result (λ p. p ≡ parent_at (live_run number (state_of self.old))) }
         ensures now { OnOk result (Becomes
-            (end_at (live_run number (state_of self.old)) status (state_of self.old)) self.old self.new) }
+            (end_at (live_run number (state_of self.old)) status (state_of self.old))
+            self.old self.new) }
     {
         let Some(
             Ending {

@@ -27,7 +27,8 @@ impl Parts {
         requires held { IsHeld self.old }
         ensures number { IfOk result (λ n. n ≡ self.old.counts.events + 1) }
         ensures now { OnOk result (Becomes
-            (add_event (event_with event.now (state_of self.old)) (state_of self.old)) self.old self.new) }
+            (add_event (event_with event.now (state_of self.old)) (state_of self.old))
+            self.old self.new) }
     {
         let number = self.counts.next_event()?;
         let text = event_text(self.alloc, event, number, self.moment)?;
@@ -48,7 +49,8 @@ impl Parts {
         requires held { IsHeld self.old }
         requires given { number ≤ self.old.counts.events }
         ensures { OnOk result (Becomes
-            (follow (when_of discovery) (event_at number name.now (state_of self.old)) (state_of self.old))
+            (follow (when_of discovery) (event_at number name.now (state_of self.old))
+            (state_of self.old))
             self.old self.new) }
     {
         self.wake_by(number, name, discovery, steps)?;
@@ -66,7 +68,8 @@ impl Parts {
         requires held { IsHeld self.old }
         requires given { number ≤ self.old.counts.events }
         ensures { OnOk result (Becomes
-            (wake_by (when_of discovery) (event_at number name.now (state_of self.old)) (state_of self.old))
+            (wake_by (when_of discovery) (event_at number name.now (state_of self.old))
+            (state_of self.old))
             self.old self.new) }
     {
         for wait in self.woken_by(number, name, steps)? {

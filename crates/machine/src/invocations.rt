@@ -40,7 +40,8 @@ impl Parts {
         ensures named { IfOk result (λ n. n
             ≡ naming_in (pend_in hash pending.Invocation) (live_run run (state_of self.old))) }
         ensures now { IfOk result (λ n. Becomes (if_new n
-            (invoke_at (live_run run (state_of self.old)) hash function.now payload timeout (state_of self.old))
+            (invoke_at (live_run run (state_of self.old)) hash function.now payload timeout
+            (state_of self.old))
             (state_of self.old)) self.old self.new) }
     {
         let naming = self.pend(run, &hash, Pending::Invocation)?;

@@ -54,7 +54,8 @@ impl Parts {
         requires held { IsHeld self.old }
         requires given { AreGiven self.old.counts.events events }
         ensures { OnOk result (Becomes
-            (make_at (function_at version (state_of self.old)) events parent (state_of self.old)) self.old self.new) }
+            (make_at (function_at version (state_of self.old)) events parent (state_of self.old))
+            self.old self.new) }
     {
         let first = first_of(events.as_slice());
         let number = later(self.counts.runs, 1)?;
@@ -148,7 +149,8 @@ impl Parts {
     pub(crate) fn queue_new(&mut self, run: u64, target: &[u8]) -> Result<(), Memory>
         requires held { IsHeld self.old }
         ensures now { OnOk result (Becomes
-            (queue_at (live_run run (state_of self.old)) target.now (state_of self.old)) self.old self.new) }
+            (queue_at (live_run run (state_of self.old)) target.now (state_of self.old))
+            self.old self.new) }
         ensures wanting { OnOk result (self.new.wanting ≡ self.old.wanting) }
     {
         let Some(item) = self.new_item(run, target)? else {

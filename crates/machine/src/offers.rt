@@ -118,7 +118,8 @@ impl Parts {
         requires given { event ≤ self.old.counts.events }
         requires right { IsRuleOf (function_at version (state_of self.old)) rule.now }
         ensures { OnOk result (Becomes
-            (gather_at (function_at version (state_of self.old)) rule.now value event (state_of self.old))
+            (gather_at (function_at version (state_of self.old)) rule.now value event
+            (state_of self.old))
             self.old self.new) }
     {
         let placed = self.join(version, rule, value, event)?;

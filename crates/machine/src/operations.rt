@@ -45,7 +45,8 @@ impl Parts {
         ensures taken { IfOk result (λ t. t
             ≡ taken_of (take_operations item.now no_retry ops (begun (state_of self.old)))) }
         ensures now { OnOk result (Becomes
-            (take_operations item.now no_retry ops (begun (state_of self.old))).state self.old self.new) }
+            (take_operations item.now no_retry ops (begun (state_of self.old))).state
+            self.old self.new) }
     {
         let mut again = false;
         for op in ops {
@@ -163,7 +164,8 @@ impl Parts {
         requires held { IsHeld self.old }
         ensures taken { IfOk result (λ t. t ≡ Stops) }
         ensures now { OnOk result (Becomes
-            (fail_at (live_run run (state_of self.old)) too_many_steps (state_of self.old)) self.old self.new) }
+            (fail_at (live_run run (state_of self.old)) too_many_steps (state_of self.old))
+            self.old self.new) }
     {
         let error = error_object(self.alloc, b"too many steps")?;
         self.fail_run(run, error.as_slice(), steps)?;

@@ -89,7 +89,8 @@ impl Parts {
         requires held { IsHeld self.old }
         requires apart { HasOwnNumbers (state_of self.old) }
         ensures { OnOk result (Becomes
-            (fail_found (open_issue call (state_of self.old)) (error_object message.now) (state_of self.old))
+            (fail_found (open_issue call (state_of self.old)) (error_object message.now)
+            (state_of self.old))
             self.old self.new) }
     {
         let Some(item) = self.close(call)? else {
@@ -241,7 +242,8 @@ impl Parts {
         requires held { IsHeld self.old }
         requires aside { IsAside item (state_of self.old) }
         ensures { OnOk result (Becomes
-            (after_found (live_run item.run (state_of self.old)) item after (state_of self.old)) self.old self.new) }
+            (after_found (live_run item.run (state_of self.old)) item after (state_of self.old))
+            self.old self.new) }
     {
         if self.is_idle(item.run) {
             return self.retry_with(item, after, b"reply moved nothing", steps);

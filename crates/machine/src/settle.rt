@@ -86,7 +86,8 @@ impl Parts {
     fn say_call(&self, number: u64, outs: &mut Items<Out>) -> Result<(), Memory>
         requires held { IsHeld self.now }
         ensures { OnOk result (outs.new ≡ outs.old
-            ++ said_at (item_at number (state_of self.now)) (self.now.counts.calls + 1) (state_of self.now)) }
+            ++ said_at (item_at number (state_of self.now)) (self.now.counts.calls + 1)
+            (state_of self.now)) }
     {
         let Some(item) = self.admission.item(number) else {
             return Ok(());

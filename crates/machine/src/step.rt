@@ -185,7 +185,8 @@ impl Parts {
         requires aside { IsAside item (state_of self.old) }
         requires start { IsStart item.start }
         ensures { OnOk result (Becomes
-            (requeue_found item (live_run item.run (state_of self.old)) (state_of self.old)) self.old self.new) }
+            (requeue_found item (live_run item.run (state_of self.old)) (state_of self.old))
+            self.old self.new) }
     {
         let Some(live) = self.runs.live(item.run) else {
             return Ok(());

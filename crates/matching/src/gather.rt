@@ -16,7 +16,8 @@ pub fn gather<K: Ord + Drop>(
 ) -> Result<(), Memory>
     requires first { start.now.1 ≡ 0 }
     ensures { OnOk result ((n : ℕ) → has_number found.new.keys n ≡
-        (has_number found.old.keys n || list_any (is_at (group_cmp K.cmp (start.now.0, n))) pairs.now.keys)) }
+        (has_number found.old.keys n
+        || list_any (is_at (group_cmp K.cmp (start.now.0, n))) pairs.now.keys)) }
 {
     for pair in pairs.range(start..) {
         if pair.0 != start.0 {

@@ -135,7 +135,8 @@ impl<E: Conditional> Index<E> {
         steps: &mut Steps<L>,
     ) -> Result<Numbers, Memory>
         ensures met { IfOk result (λ ns. ns ≡ filter
-            (meets_at E.condition_of E.number_of (M.is_true matcher.now) event.now self.now) near.now.keys) }
+            (meets_at E.condition_of E.number_of
+            (M.is_true matcher.now) event.now self.now) near.now.keys) }
         ensures asked { steps.new ≤ steps.old
             + length (filter (asks_at E.condition_of E.number_of event.now self.now) near.now.keys) }
         ensures ordered { IsStrictlySortedBy nat_cmp near.now.keys }

@@ -31,7 +31,12 @@ is_callable u =
 
 -- where calls go; the fragment is dropped
 abbrev pub address_with : Parts → List ℕ → Address
-address_with u host = record { host = host; port = unwrap_or u.port default_port; path = u.path; query = unwrap_or u.query [] }
+address_with u host = record {
+  host = host;
+  port = unwrap_or u.port default_port;
+  path = u.path;
+  query = unwrap_or u.query [];
+}
 
 abbrev pub address_of : Parts → Option (List ℕ) → Result Address Flaw
 address_of u None = Err Url

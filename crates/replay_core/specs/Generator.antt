@@ -62,7 +62,8 @@ generator_line n s text = counts_text n s ++ codes " sha1=" ++ encode_lower (sha
 
 -- in the place of what is printed, the line that tells of it
 abbrev pub summed_up : ℕ → Outcome → Transcript
-summed_up n (Goes progress text) = record { text = generator_line n progress.state text; ending = Finished }
+summed_up n (Goes progress text) =
+    record { text = generator_line n progress.state text; ending = Finished }
 summed_up n (Stops ending text) = record { text = []; ending = ending }
 
 abbrev pub summary : ℕ → Transcript

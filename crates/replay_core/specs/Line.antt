@@ -41,7 +41,8 @@ id_of word = if bytes_eq word (codes "-") then None else Some word
 
 -- an event with no data
 abbrev pub event_named : List ℕ → Option (List ℕ) → EventIn
-event_named name id = record { name = name; content = codes "{}"; id = id; ts = None; user = None; v = None }
+event_named name id =
+    record { name = name; content = codes "{}"; id = id; ts = None; user = None; v = None }
 
 -- `NAME ID`
 abbrev pub event_of : List ℕ → Option EventIn

@@ -50,7 +50,8 @@ impl Logged {
         requires logging { IsLogging self.journal rig.old }
         ensures run { Says (on_line self.progress line.now) said.old said.new result }
         ensures log { IfOk result
-            (λ next. Logs (payloads_in rig.old) (accepted_line self.progress line.now) next.journal rig.new) }
+            (λ next. Logs (payloads_in rig.old)
+            (accepted_line self.progress line.now) next.journal rig.new) }
         ensures stops { IfErr result
             (λ e. StopsLog (accepted_line self.progress line.now) rig.old rig.new e) }
         ensures starved { OnOk result (rig.new.counts.starved ≡ rig.old.counts.starved) }

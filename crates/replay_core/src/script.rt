@@ -58,7 +58,8 @@ pub fn run_lines<I: Source, O: Sink>(
     ensures reads { (I.incoming input.new).faults ≡ read_faults result (I.incoming input.old).faults }
     ensures writes { CountsWrites result (O.outgoing out.old).faults (O.outgoing out.new).faults }
     ensures holds { (flow : Flow) → (I.incoming input.old).flow ≡ Some flow →
-        HoldsOf form (PutsPrefix (O.outgoing out.old) (O.outgoing out.new)) flow.left rig.new.a.bytes result }
+        HoldsOf form
+        (PutsPrefix (O.outgoing out.old) (O.outgoing out.new)) flow.left rig.new.a.bytes result }
     ensures synced { IsOnDisk rig.new ⊎ (result ≡ ReplayEnd.Memory) }
     ensures starved { (rig.new.counts.starved ≡ rig.old.counts.starved) ⊎ (result ≡ ReplayEnd.Memory) }
 {

@@ -53,7 +53,8 @@ disk_of rig = record { a = file_in rig.a; b = file_in rig.b }
 
 -- the present moment
 abbrev pub moment_of : MemoryRig → Moment
-moment_of rig = record { disk = disk_of rig; heard = []; moments = rig.moments; said = []; asked = rig.asked }
+moment_of rig =
+    record { disk = disk_of rig; heard = []; moments = rig.moments; said = []; asked = rig.asked }
 
 -- what it tells: the present as it is, and any past
 abbrev pub rig_tells : MemoryRig → History → Type 0

@@ -64,7 +64,8 @@ abbrev pub is_changed : App → State → Bool
 is_changed app s = is_modified s.functions (registered app s.versions s.functions)
 
 abbrev pub on_register : App → State → Stepped
-on_register app s = record { state = with_functions app s; outs = registered_answer (is_changed app s) ∷ [] }
+on_register app s =
+    record { state = with_functions app s; outs = registered_answer (is_changed app s) ∷ [] }
 
 -- ## Cancellations
 

@@ -134,7 +134,8 @@ abbrev pub pend : Pending → List ℕ → Run → State → State
 pend kind name r s = change_run r.number (λ r. with_steps (pend_step name kind r.steps) r) s
 
 abbrev pub new_sleep : Run → List ℕ → Time → State → Sleep
-new_sleep r name t s = record { number = s.entries + 1; run = r.number; hash = name; due = due_at t s.moment }
+new_sleep r name t s =
+    record { number = s.entries + 1; run = r.number; hash = name; due = due_at t s.moment }
 
 abbrev pub add_sleep : Run → List ℕ → Time → State → State
 add_sleep r name t s = record (pend pending.Sleep name r s) {

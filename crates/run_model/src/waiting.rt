@@ -42,5 +42,6 @@ pub fn nothing_is_overdue()
 pub fn runs_are_dated()
     ensures { (limits : Limits) (inputs : List Input) → AllByRecursion IsInRange inputs →
         (fold limits inputs).entries < 2 ^ 64 →
-        AllByRecursion (λ (r : Run). r.moment ≤ (fold limits inputs).moment) (all_runs (fold limits inputs)) }
+        AllByRecursion (λ (r : Run). r.moment ≤ (fold limits inputs).moment)
+        (all_runs (fold limits inputs)) }
 {}

@@ -68,7 +68,13 @@ exponent_of text =
 abbrev pub number_with : Bool → List ℕ → List ℕ → List ℕ × List ℕ → Option JsonNumber
 number_with negative whole fraction exponent =
     if is_whole whole
-    then Some (record { negative = negative; whole = whole; fraction = fraction; mark = exponent.0; exponent = exponent.1 })
+    then Some (record {
+      negative = negative;
+      whole = whole;
+      fraction = fraction;
+      mark = exponent.0;
+      exponent = exponent.1;
+    })
     else None
 
 unfoldable pub number_of : List ℕ → Option JsonNumber
