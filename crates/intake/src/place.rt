@@ -11,10 +11,10 @@ use std::collections::BTreeSet;
 /// The digest of an id, and the number of its entry.
 pub(crate) type Place = (u64, u64);
 
-/// A number that stands for the bytes of an id, 63 bits of its SHA-256. Other ids may have the same, and a
-/// look-up goes through all ids of its digest. Senders choose their ids: with a sum of the bytes, thousands
-/// of ids of one digest are easily made, and each look-up would go through them all. Here a pair takes some
-/// billions of tries, and each further id of its digest far more, so a look-up compares a few at most.
+/// A number that stands for the bytes of an id, 63 bits of its SHA-256. Other ids may have the same, and
+/// a look-up goes through all ids of its digest. Senders choose their ids: with a sum of the bytes,
+/// thousands of one digest are easily made, and each look-up would go through them all. Here a pair takes
+/// some billions of tries, and each further id of its digest far more, so that a look-up compares a few.
 #[tactic(auto, unfolding(crate::specs::Places::digest))]
 pub(crate) fn digest(id: &[u8]) -> u64
     ensures value { result ≡ digest id.now }

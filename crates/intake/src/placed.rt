@@ -13,8 +13,8 @@ use std::alloc::Global;
 use std::collections::BTreeSet;
 use std::marker::Model;
 
-/// Entries in order of number, found by id too. A digest of each id stands beside its number, so that the
-/// id itself stands in its entry alone.
+/// Entries in order of number, found by id too. A digest of each id stands beside its number, so that
+/// the id itself stands in its entry alone.
 #[derive(Drop)]
 pub(crate) struct Placed {
     timeline: Timeline,

@@ -7,8 +7,8 @@ use lists::{Bytes, Memory};
 use std::alloc::Global;
 
 /// The text that an accepted event goes on as, with its number and its moment in milliseconds since
-/// 1970: `{"name":N,"data":D,"id":I,"ts":T,"user":U,"v":V}`, the last two only where the source has them.
-/// It is kept for long, and has no more room than its length.
+/// 1970: `{"name":N,"data":D,"id":I,"ts":T,"user":U,"v":V}`, the last two only where the source has
+/// them. It is kept as long as the event, and has no more room than its length.
 pub fn event_text(alloc: Global, event: &EventIn, number: u64, moment: u64) -> Result<Bytes, Memory>
     ensures { IfOk result (λ text. text ≡ event_text number moment event.now) }
 {
