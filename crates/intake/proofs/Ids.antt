@@ -1,10 +1,8 @@
--- The map of places and the weight after an id was noted or forgotten.
-use Rattle.std.proofs.Common.{◌≡◌, ℕ, ◌+◌, ◌-◌, ◌<◌, ◌≤◌, ◌==◌, nat_lt, Bool, true, false, cond, not, ◌&&◌, List, [], ◌∷◌, Some, None, Option, refl, sym, ap, ◌∙◌, arith, map, length, subst, Vec, Global}
-use Rattle.std.specs.Option.{option_map, SomeIff}
+-- The entries and their weight after an id was noted or forgotten.
+use Rattle.std.proofs.Common.{◌≡◌, ℕ, ◌+◌, ◌-◌, ◌<◌, ◌≤◌, ◌==◌, nat_lt, Bool, true, false, cond, not, ◌&&◌, List, [], ◌∷◌, Some, None, Option, refl, sym, ap, ◌∙◌, arith, map, length, subst}
+use Rattle.std.specs.Option.{option_map, MatchOption, SomeIff}
 use Rattle.std.specs.List.{find, filter, AllByRecursion}
-use Rattle.std.specs.Map.{lookup}
 use Rattle.std.specs.Ordering.{nat_cmp}
-use Rattle.std.specs.Str.{bytes_eq}
 use Rattle.std.specs.declared.cmp.Ordering.TheVariants.{Less}
 use Rattle.std.proofs.lemmas.Bool.{cond-true, cond-false}
 use Rattle.std.proofs.lemmas.Bool.Decides.{nat_tests}
@@ -13,13 +11,12 @@ use Rattle.std.proofs.lemmas.Cmp.{nat_cmp_total}
 use Rattle.std.proofs.lemmas.Map.Keys.{sorted_head, sorted_tail}
 use Rattle.kinds.specs.declared.seen.SeenEntry.{SeenEntry}
 use Rattle.kinds.specs.Seen.{has_id, without_id, insert_seen, note_seen, is_remembered, remembered, find_seen, weight_of}
-use Rattle.lists.proofs.Texts.{Puts, texts, key_text, bytes_flip, bytes_self, bytes_same}
-use Rattle.intake.specs.declared.seen.Place.{Place}
-use Rattle.intake.specs.Number.{has_number, without_number}
+use Rattle.lists.proofs.Texts.{bytes_flip, bytes_self, bytes_same}
+use Rattle.intake.specs.Number.{has_number, number_of, without_number}
 use Rattle.intake.specs.Order.{IsInOrder}
-use Rattle.intake.specs.Places.{place_of, AreApart, IsSeen}
-use Rattle.lists.proofs.Keyed.{cond_none, filter_none, find_without, find_filter, find-insert, without-insert, filter-insert}
-use Rattle.intake.proofs.Numbers.{seen_inserts, number_of, found_above, less_apart}
+use Rattle.intake.specs.Places.{AreApart, IsSeen, is_of}
+use Rattle.lists.proofs.Keyed.{cond_none, filter_none, find_without, find-insert, filter-insert}
+use Rattle.intake.proofs.Numbers.{seen_inserts, found_above, found_number, less_apart}
 
 -- ---- entries with ids apart
 
@@ -44,25 +41,6 @@ find_seen_at id moment (e ∷ es) a = by_test (has_id id e) refl (find_seen_at i
         → option_map number_of (cond (b && is_remembered moment e) (Some e) (find (λ x. has_id id x && is_remembered moment x) es)) ≡ seen_at moment (cond b (Some e) (find (has_id id) es))
     by_test true t more = by_window (is_remembered moment e) (find_narrower (has_id id) (is_remembered moment) es (ap (λ r. find (has_id r) es) (bytes_same id e.id t) ∙ a.0))
     by_test false t more = more
-
--- ---- the call `find`
-
-pub map_none : (o : Option SeenEntry) → None ≡ option_map place_of o → o ≡ None
-map_none None h = refl
-map_none (Some e) h = cc
-
-pub seen_from_none : (id : List ℕ) (moment : ℕ) (es : List SeenEntry) (places : List (List ℕ × Place)) (w : ℕ) → IsSeen es places w → None ≡ lookup (bytes_eq id) places → None ≡ find_seen id moment es
-seen_from_none id moment es places w s h = sym (find_seen_at id moment es s.apart ∙ ap (seen_at moment) (map_none (find (has_id id) es) (h ∙ s.placed id)))
-
-seen_some : (moment : ℕ) (o : Option SeenEntry) (p : Place) → Some p ≡ option_map place_of o → seen_at moment o ≡ cond (nat_lt (moment - p.moment) 86400000) (Some p.number) None
-seen_some moment None p h = cc
-seen_some moment (Some e) p h =
-    let same : p ≡ place_of e = (cc) in
-    ap (λ (q : Place). cond (nat_lt (moment - q.moment) 86400000) (Some q.number) None) (sym same)
-
-pub seen_from_some : (id : List ℕ) (moment : ℕ) (es : List SeenEntry) (places : List (List ℕ × Place)) (w : ℕ) (p : Place) → IsSeen es places w → Some p ≡ lookup (bytes_eq id) places
-    → find_seen id moment es ≡ cond (nat_lt (moment - p.moment) 86400000) (Some p.number) None
-seen_from_some id moment es places w p s h = find_seen_at id moment es s.apart ∙ seen_some moment (find (has_id id) es) p (h ∙ s.placed id)
 
 -- ---- one entry more, or less
 
@@ -116,7 +94,7 @@ weight_without id (e ∷ es) r a h = by_test (has_id id e) refl (weight_without 
         omega (arith, same, size)
     by_test false t more h = let less = more h in omega (arith, less)
 
-found_id : (id : List ℕ) (es : List SeenEntry) (r : SeenEntry) → find (has_id id) es ≡ Some r → id ≡ r.id
+pub found_id : (id : List ℕ) (es : List SeenEntry) (r : SeenEntry) → find (has_id id) es ≡ Some r → id ≡ r.id
 found_id id [] r h = cc
 found_id id (e ∷ es) r h = by_test (has_id id e) refl (found_id id es r) h
   where
@@ -177,80 +155,37 @@ same_without id (e ∷ es) r s a h = by_test (has_id id e) refl (same_without id
         ap (λ b. cond (not b) (e ∷ without_number r.number es) (without_number r.number es)) (less_apart e.number r.number (found_above (has_id id) e.number es r above h))
         ∙ ap (λ xs. e ∷ xs) (more h)
 
--- ---- the calls `note` and `forget_one`
+-- ---- the calls
 
--- where each id stands after an entry came in the place of none
-placed_added : (x : SeenEntry) (es : List SeenEntry) (old new : List (List ℕ × Place)) → find (has_id x.id) es ≡ None → Puts x.id (Some (place_of x)) old new
-    → ((q : List ℕ) → lookup (bytes_eq q) old ≡ option_map place_of (find (has_id q) es)) → (q : List ℕ) → lookup (bytes_eq q) new ≡ option_map place_of (find (has_id q) (insert_seen x es))
-unfolding Puts
-placed_added x es old new none u l q =
-    u q ∙ ap (cond (bytes_eq q x.id) (Some (place_of x))) (l q) ∙ sym (map_cond (bytes_eq q x.id) (find (has_id q) es))
-    ∙ sym (ap (option_map place_of) (find-insert nat_cmp number_of seen_inserts (has_id q) x es (λ t. ap (λ r. find (has_id r) es) (bytes_same q x.id t) ∙ none)))
-  where
-    map_cond : (b : Bool) (o : Option SeenEntry) → option_map place_of (cond b (Some x) o) ≡ cond b (Some (place_of x)) (option_map place_of o)
-    map_cond true o = refl
-    map_cond false o = refl
-
--- where each id stands after an entry went
-placed_removed : (id : List ℕ) (es : List SeenEntry) (old new : List (List ℕ × Place)) → Puts id None old new
-    → ((q : List ℕ) → lookup (bytes_eq q) old ≡ option_map place_of (find (has_id q) es)) → (q : List ℕ) → lookup (bytes_eq q) new ≡ option_map place_of (find (has_id q) (without_id id es))
-unfolding Puts
-placed_removed id es old new u l q = u q ∙ by_test (bytes_eq q id) refl
-  where
-    other : bytes_eq q id ≡ false → (e : SeenEntry) → has_id q e ≡ true → not (has_id id e) ≡ true
-    other n e t = ap (λ r. not (bytes_eq id r)) (sym (bytes_same q e.id t)) ∙ ap not (bytes_flip id q ∙ n)
-
-    by_test : (b : Bool) → bytes_eq q id ≡ b → cond b None (lookup (bytes_eq q) old) ≡ option_map place_of (find (has_id q) (without_id id es))
-    by_test true t = sym (ap (option_map place_of) (ap (λ r. find (has_id r) (without_id id es)) (bytes_same q id t) ∙ find_without (has_id id) es))
-    by_test false n = l q ∙ sym (ap (option_map place_of) (find_filter (has_id q) (λ e. not (has_id id e)) (other n) es))
-
--- what stands in the place of another, as if that had gone before
-puts_again : (t : List ℕ) (w : Option Place) (old new : List (List ℕ × Place)) (es : List SeenEntry) → Puts t w old new
-    → ((q : List ℕ) → lookup (bytes_eq q) old ≡ option_map place_of (find (has_id q) es)) → (q : List ℕ) → lookup (bytes_eq q) new ≡ cond (bytes_eq q t) w (option_map place_of (find (has_id q) (without_id t es)))
-unfolding Puts
-puts_again t w old new es u l q = u q ∙ by_test (bytes_eq q t) refl
-  where
-    other : bytes_eq q t ≡ false → (e : SeenEntry) → has_id q e ≡ true → not (has_id t e) ≡ true
-    other n e h = ap (λ r. not (bytes_eq t r)) (sym (bytes_same q e.id h)) ∙ ap not (bytes_flip t q ∙ n)
-
-    by_test : (b : Bool) → bytes_eq q t ≡ b → cond b w (lookup (bytes_eq q) old) ≡ cond b w (option_map place_of (find (has_id q) (without_id t es)))
-    by_test true h = refl
-    by_test false n = l q ∙ sym (ap (option_map place_of) (find_filter (has_id q) (λ e. not (has_id t e)) (other n) es))
+-- what has the id is its entry
+pub entry_of : (id : List ℕ) (es : List SeenEntry) (o : Option SeenEntry) → AreApart es
+    → MatchOption o (find (has_id id) es ≡ None) (λ e. (find (has_number e.number) es ≡ Some e) × (has_id id e ≡ true))
+    → o ≡ find (has_id id) es
+entry_of id es None a h = sym h
+entry_of id es (Some e) a h =
+    sym (ap (λ i. find (has_id i) es) (bytes_same id e.id h.1) ∙ found_by_id e.number es e a h.0)
 
 -- a new id
-pub seen_added : (x : SeenEntry) (es after : List SeenEntry) (old new : List (List ℕ × Place)) (w grown : ℕ) (t : List ℕ) → IsSeen es old w → None ≡ lookup (bytes_eq t) old → t ≡ x.id
-    → Puts t (Some (place_of x)) old new → after ≡ insert_seen x es → grown ≡ w + (length x.id + 64) → (after ≡ note_seen x es) × IsSeen after new grown
-seen_added x es after old new w grown t s absent same u h g =
-    let none = ap (λ i. find (has_id i) es) (sym same) ∙ map_none (find (has_id t) es) (absent ∙ s.placed t) in
+pub seen_added : (x : SeenEntry) (es after : List SeenEntry) (w grown : ℕ) → IsSeen es w → find (has_id x.id) es ≡ None
+    → after ≡ insert_seen x es → grown ≡ w + (length x.id + 64) → (after ≡ note_seen x es) × IsSeen after grown
+seen_added x es after w grown s none h g =
     let weighed = weight_insert x es in (
       h ∙ ap (insert_seen x) (sym (filter_none (has_id x.id) es none)),
-      subst (λ xs. IsSeen xs new grown) (sym h)
-          (record {
-            apart = apart_insert x es s.apart none;
-            placed = placed_added x es old new none (subst (λ i. Puts i (Some (place_of x)) old new) same u) s.placed;
-            weighed = omega (arith, weighed, s.weighed, g);
-          }),
+      subst (λ xs. IsSeen xs grown) (sym h)
+          (record { apart = apart_insert x es s.apart none; weighed = omega (arith, weighed, s.weighed, g) }),
     )
 
 -- an id that is still held
-replaced : (x r : SeenEntry) (es : List SeenEntry) (old new : List (List ℕ × Place)) (w : ℕ) → IsSeen es old w → find (has_id x.id) es ≡ Some r → Puts x.id (Some (place_of x)) old new
-    → IsSeen (note_seen x es) new w
-unfolding Puts
-replaced x r es old new w s found u =
-    let gone = find_without (has_id x.id) es in
+replaced : (x r : SeenEntry) (es : List SeenEntry) (w : ℕ) → IsSeen es w → find (has_id x.id) es ≡ Some r → IsSeen (note_seen x es) w
+replaced x r es w s found =
     let weighed = weight_insert x (without_id x.id es) in
     let before = weight_without x.id es r s.apart found in
     let size = ap length (found_id x.id es r found) in
+    let rest = apart_filter (λ e. not (has_id x.id e)) es s.apart in
     record {
-      apart = apart_insert x (without_id x.id es) (apart_filter (λ e. not (has_id x.id e)) es s.apart) gone;
-      placed = λ q. puts_again x.id (Some (place_of x)) old new es u s.placed q ∙ sym (map_cond (bytes_eq q x.id) (find (has_id q) (without_id x.id es)))
-          ∙ sym (ap (option_map place_of) (find-insert nat_cmp number_of seen_inserts (has_id q) x (without_id x.id es) (λ t. ap (λ i. find (has_id i) (without_id x.id es)) (bytes_same q x.id t) ∙ gone)));
+      apart = apart_insert x (without_id x.id es) rest (find_without (has_id x.id) es);
       weighed = omega (arith, weighed, before, size, s.weighed);
     }
-  where
-    map_cond : (b : Bool) (o : Option SeenEntry) → option_map place_of (cond b (Some x) o) ≡ cond b (Some (place_of x)) (option_map place_of o)
-    map_cond true o = refl
-    map_cond false o = refl
 
 -- a number that none has isn't that of what is found
 other_number : (n : ℕ) (t : SeenEntry → Bool) (es : List SeenEntry) (r : SeenEntry) → find (has_number n) es ≡ None → find t es ≡ Some r → (r.number == n) ≡ false
@@ -277,44 +212,32 @@ note_replaced x r es s a fresh found =
     ∙ ap (λ b. cond (not b) (insert_seen x (without_number r.number es)) (without_number r.number es)) (other_number x.number (has_id x.id) es r fresh found)
     ∙ ap (insert_seen x) (same_without x.id es r s a found)
 
--- a place that the map has is that of an entry
-held_by : (o : Option SeenEntry) (p : Place) → Some p ≡ option_map place_of o → (r : SeenEntry) × (o ≡ Some r) × (p ≡ place_of r)
-held_by None p h = cc
-held_by (Some r) p h = (r, refl, some_same h)
+-- the number of an entry that has an id is that of the id's entry
+held_by : (id : List ℕ) (n : ℕ) (es : List SeenEntry) → AreApart es → is_of id (find (has_number n) es) ≡ true
+    → (r : SeenEntry) × (find (has_id id) es ≡ Some r) × (n ≡ r.number)
+held_by id n es a t = by_found (find (has_number n) es) refl t
   where
-    some_same : Some p ≡ Some (place_of r) → p ≡ place_of r
-    some_same h = cc
+    by_found : (o : Option SeenEntry) → find (has_number n) es ≡ o → is_of id o ≡ true → (r : SeenEntry) × (find (has_id id) es ≡ Some r) × (n ≡ r.number)
+    by_found None e t = cc
+    by_found (Some r) e t = (r, ap (λ i. find (has_id i) es) (bytes_same id r.id t) ∙ found_by_id n es r a e, found_number n es r e)
 
-pub seen_replaced : (x : SeenEntry) (es mid after : List SeenEntry) (old new : List (List ℕ × Place)) (w : ℕ) (t : List ℕ) (p : Place) → IsSeen es old w → IsInOrder es → find (has_number x.number) es ≡ None
-    → Some p ≡ lookup (bytes_eq t) old → t ≡ x.id → Puts t (Some (place_of x)) old new → mid ≡ insert_seen x es → after ≡ without_number p.number mid → (after ≡ note_seen x es) × IsSeen after new w
-seen_replaced x es mid after old new w t p s order fresh held same u h g =
-    let place = held_by (find (has_id t) es) p (held ∙ s.placed t) in
-    let found = ap (λ i. find (has_id i) es) (sym same) ∙ place.1 in
-    let noted = g ∙ ap (λ (q : Place). without_number q.number mid) place.2 ∙ ap (without_number place.0.number) h ∙ note_replaced x place.0 es order s.apart fresh found in
-    (noted, subst (λ xs. IsSeen xs new w) (sym noted) (replaced x place.0 es old new w s found (subst (λ i. Puts i (Some (place_of x)) old new) same u)))
-
-pub note_undone : (x : SeenEntry) (es : List SeenEntry) → find (has_number x.number) es ≡ None → without_number x.number (insert_seen x es) ≡ es
-note_undone x es fresh = without-insert nat_cmp number_of seen_inserts (has_number x.number) x es (self_number x.number) fresh
-  where
-    self_number : (n : ℕ) → (n == n) ≡ true
-    self_number n = grind (arith, nat_tests)
-
-pub seen_undone : (es after : List SeenEntry) (old new : List (Vec ℕ Global × Place)) (w : ℕ) → after ≡ es → new ≡ old → IsSeen es (texts key_text old) w → IsSeen after (texts key_text new) w
-seen_undone es after old new w h g s = subst (λ xs. IsSeen xs (texts key_text new) w) (sym h) (subst (λ ps. IsSeen es (texts key_text ps) w) (sym g) s)
+pub seen_replaced : (x : SeenEntry) (es mid after : List SeenEntry) (w n : ℕ) → IsSeen es w → IsInOrder es → find (has_number x.number) es ≡ None
+    → is_of x.id (find (has_number n) es) ≡ true → mid ≡ insert_seen x es → after ≡ without_number n mid
+    → (after ≡ note_seen x es) × IsSeen after w
+seen_replaced x es mid after w n s order fresh held h g =
+    let old = held_by x.id n es s.apart held in
+    let noted = g ∙ ap (λ k. without_number k mid) old.2 ∙ ap (without_number old.0.number) h ∙ note_replaced x old.0 es order s.apart fresh old.1 in
+    (noted, subst (λ xs. IsSeen xs w) (sym noted) (replaced x old.0 es w s old.1))
 
 -- the entry of a number went
-pub seen_dropped : (r : SeenEntry) (es after : List SeenEntry) (old new : List (List ℕ × Place)) (w size : ℕ) (t : List ℕ) → IsSeen es old w → IsInOrder es → find (has_number r.number) es ≡ Some r
-    → t ≡ r.id → Puts t None old new → after ≡ without_number r.number es → size ≡ length r.id → IsSeen after new (w - (size + 64))
-seen_dropped r es after old new w size t s order found text u h g =
+pub seen_dropped : (r : SeenEntry) (es after : List SeenEntry) (w size : ℕ) → IsSeen es w → IsInOrder es → find (has_number r.number) es ≡ Some r
+    → after ≡ without_number r.number es → size ≡ length r.id → IsSeen after (w - (size + 64))
+seen_dropped r es after w size s order found h g =
     let by_id = found_by_id r.number es r s.apart found in
     let same = h ∙ same_without r.id es r order s.apart by_id in
     let before = weight_without r.id es r s.apart by_id in
-    subst (λ xs. IsSeen xs new (w - (size + 64))) (sym same)
-    (record {
-      apart = apart_filter (λ e. not (has_id r.id e)) es s.apart;
-      placed = placed_removed r.id es old new (subst (λ i. Puts i None old new) text u) s.placed;
-      weighed = omega (arith, before, s.weighed, g);
-    })
+    subst (λ xs. IsSeen xs (w - (size + 64))) (sym same)
+    (record { apart = apart_filter (λ e. not (has_id r.id e)) es s.apart; weighed = omega (arith, before, s.weighed, g) })
 
 pub grown_by : (r : Option ℕ) (g v : ℕ) (P : Type 0) → SomeIff r P v → r ≡ Some g → g ≡ v
 grown_by None g v P h e = cc
@@ -323,8 +246,8 @@ grown_by (Some x) g v P h e = some_same e ∙ h.1
     some_same : Some x ≡ Some g → g ≡ x
     some_same h = cc
 
-pub weight_found : (r : SeenEntry) (es : List SeenEntry) (places : List (List ℕ × Place)) (w : ℕ) → IsSeen es places w → find (has_number r.number) es ≡ Some r → length r.id + 64 ≤ w
-weight_found r es places w s found =
+pub weight_found : (r : SeenEntry) (es : List SeenEntry) (w : ℕ) → IsSeen es w → find (has_number r.number) es ≡ Some r → length r.id + 64 ≤ w
+weight_found r es w s found =
     let before = weight_without r.id es r s.apart (found_by_id r.number es r s.apart found) in
     omega (arith, before, s.weighed)
 

@@ -2,3 +2,4 @@ pub mod Ids
 pub mod Numbers
 pub mod EventLists
 pub mod PlainTexts
+pub mod Placing

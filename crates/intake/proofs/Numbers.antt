@@ -13,14 +13,12 @@ use Rattle.std.proofs.lemmas.Bool.{cond-true, cond-false}
 use Rattle.std.proofs.lemmas.Bool.Decides.{nat_tests}
 use Rattle.std.proofs.lemmas.Cmp.{nat_cmp_total}
 use Rattle.std.proofs.lemmas.Map.Keys.{sorted_head, sorted_tail}
+use Rattle.std.proofs.lemmas.Option.{same_Some}
 use Rattle.kinds.specs.declared.seen.SeenEntry.{SeenEntry}
 use Rattle.kinds.specs.Seen.{insert_seen, is_remembered, remembered, window}
-use Rattle.intake.specs.Number.{has_number, without_number}
-use Rattle.intake.specs.Order.{IsInOrder, pair_cmp, has_moment, under_numbers, IsTimeline}
+use Rattle.intake.specs.Number.{has_number, number_of, without_number}
+use Rattle.intake.specs.Order.{AreListed, IsInOrder, pair_cmp, has_part, moment_of, under_numbers, IsTimeline}
 use Rattle.lists.proofs.Keyed.{Inserts, filter_none, find_without, find_filter, values_of-keyed, keys_of-keyed, lookup-keyed, keyed-insert, keyed-remove, find-insert}
-
-abbrev pub number_of : SeenEntry → ℕ
-number_of e = e.number
 
 lt_same : (a b : ℕ) → nat_lt a b ≡ is_lt (nat_cmp a b)
 lt_same a b = grind (arith, nat_tests)
@@ -77,95 +75,89 @@ keyed_values pairs es h = ap values_of h ∙ values_of-keyed nat_cmp number_of e
 
 -- ---- the whole
 
-unfoldable pub Lists : List (ℕ × ℕ) → List SeenEntry → Type 0
-Lists moments es = (moment number : ℕ) → list_any (is_at (pair_cmp (moment, number))) moments ≡ has_moment moment (find (has_number number) es)
-
 -- what a set's `updates` says of a pair that came or went
 unfoldable pub Changes : ℕ → ℕ → Bool → List (ℕ × ℕ) → List (ℕ × ℕ) → Type 0
 Changes m n b old new = (q : ℕ × ℕ) → list_any (is_at (pair_cmp q)) new ≡ cond (is_at (pair_cmp (m, n)) q) b (list_any (is_at (pair_cmp q)) old)
 
-added_case : (m n : ℕ) (e : SeenEntry) (o : Option SeenEntry) → (n ≡ e.number → o ≡ None) → cond (e.moment == m && e.number == n) true (has_moment m o) ≡ has_moment m (cond (n == e.number) (Some e) o)
-added_case m n e None h = grind (arith, nat_tests)
-added_case m n e (Some x) h = grind (arith, nat_tests)
+module _ (part : SeenEntry → ℕ) where
+  added_case : (m n : ℕ) (e : SeenEntry) (o : Option SeenEntry) → (n ≡ e.number → o ≡ None) → cond (part e == m && e.number == n) true (has_part part m o) ≡ has_part part m (cond (n == e.number) (Some e) o)
+  added_case m n e None h = grind (arith, nat_tests)
+  added_case m n e (Some x) h = grind (arith, nat_tests)
 
-listed_added : (e : SeenEntry) (es : List SeenEntry) (old new : List (ℕ × ℕ)) → find (has_number e.number) es ≡ None → Changes e.moment e.number true old new → Lists old es → Lists new (insert_seen e es)
-unfolding Lists Changes
-listed_added e es old new none u l m n =
-    u (m, n)
-    ∙ ap (λ b. cond b true (list_any (is_at (pair_cmp (m, n))) old)) (pair_at e.moment e.number m n)
-    ∙ ap (cond (e.moment == m && e.number == n) true) (l m n)
-    ∙ added_case m n e (find (has_number n) es) (λ t. ap (λ k. find (has_number k) es) t ∙ none)
-    ∙ sym (ap (has_moment m) (find-insert nat_cmp number_of seen_inserts (has_number n) e es (λ t. ap (λ k. find (has_number k) es) (eqb-true n e.number t) ∙ none)))
+  pub listed_added : (e : SeenEntry) (es : List SeenEntry) (old new : List (ℕ × ℕ)) → find (has_number e.number) es ≡ None → Changes (part e) e.number true old new → AreListed part old es → AreListed part new (insert_seen e es)
+  unfolding Changes
+  listed_added e es old new none u l m n =
+      u (m, n)
+      ∙ ap (λ b. cond b true (list_any (is_at (pair_cmp (m, n))) old)) (pair_at (part e) e.number m n)
+      ∙ ap (cond (part e == m && e.number == n) true) (l m n)
+      ∙ added_case m n e (find (has_number n) es) (λ t. ap (λ k. find (has_number k) es) t ∙ none)
+      ∙ sym (ap (has_part part m) (find-insert nat_cmp number_of seen_inserts (has_number n) e es (λ t. ap (λ k. find (has_number k) es) (eqb-true n e.number t) ∙ none)))
 
-removed_same : (m n : ℕ) (r : SeenEntry) → cond (r.moment == m && n == n) false (m == r.moment) ≡ false
-removed_same m n r = grind (arith, nat_tests)
+  removed_same : (m n : ℕ) (r : SeenEntry) → cond (part r == m && n == n) false (m == part r) ≡ false
+  removed_same m n r = grind (arith, nat_tests)
 
-removed_other : (m n k : ℕ) (r : SeenEntry) (x : Bool) → (k == n) ≡ false → cond (r.moment == m && n == k) false x ≡ x
-removed_other m n k r x f = grind (arith, nat_tests)
+  removed_other : (m n k : ℕ) (r : SeenEntry) (x : Bool) → (k == n) ≡ false → cond (part r == m && n == k) false x ≡ x
+  removed_other m n k r x f = grind (arith, nat_tests)
 
-removed_case : (m k n : ℕ) (r : SeenEntry) (es : List SeenEntry) → find (has_number n) es ≡ Some r → cond (r.moment == m && n == k) false (has_moment m (find (has_number k) es)) ≡ has_moment m (find (has_number k) (without_number n es))
-removed_case m k n r es h = by_test (k == n) refl
-  where
-    other : (k == n) ≡ false → (x : SeenEntry) → has_number k x ≡ true → not (has_number n x) ≡ true
-    other f x t = grind (arith, nat_tests)
+  removed_case : (m k n : ℕ) (r : SeenEntry) (es : List SeenEntry) → find (has_number n) es ≡ Some r → cond (part r == m && n == k) false (has_part part m (find (has_number k) es)) ≡ has_part part m (find (has_number k) (without_number n es))
+  removed_case m k n r es h = by_test (k == n) refl
+    where
+      other : (k == n) ≡ false → (x : SeenEntry) → has_number k x ≡ true → not (has_number n x) ≡ true
+      other f x t = grind (arith, nat_tests)
 
-    by_test : (b : Bool) → (k == n) ≡ b → cond (r.moment == m && n == k) false (has_moment m (find (has_number k) es)) ≡ has_moment m (find (has_number k) (without_number n es))
-    by_test true t = let same = eqb-true k n t in
-        subst (λ q. cond (r.moment == m && n == q) false (has_moment m (find (has_number q) es)) ≡ has_moment m (find (has_number q) (without_number n es))) (sym same)
-        (ap (λ o. cond (r.moment == m && n == n) false (has_moment m o)) h ∙ removed_same m n r ∙ sym (ap (has_moment m) (find_without (has_number n) es)))
-    by_test false f = removed_other m n k r (has_moment m (find (has_number k) es)) f ∙ sym (ap (has_moment m) (find_filter (has_number k) (λ x. not (has_number n x)) (other f) es))
+      by_test : (b : Bool) → (k == n) ≡ b → cond (part r == m && n == k) false (has_part part m (find (has_number k) es)) ≡ has_part part m (find (has_number k) (without_number n es))
+      by_test true t = let same = eqb-true k n t in
+          subst (λ q. cond (part r == m && n == q) false (has_part part m (find (has_number q) es)) ≡ has_part part m (find (has_number q) (without_number n es))) (sym same)
+          (ap (λ o. cond (part r == m && n == n) false (has_part part m o)) h ∙ removed_same m n r ∙ sym (ap (has_part part m) (find_without (has_number n) es)))
+      by_test false f = removed_other m n k r (has_part part m (find (has_number k) es)) f ∙ sym (ap (has_part part m) (find_filter (has_number k) (λ x. not (has_number n x)) (other f) es))
 
-listed_removed : (r : SeenEntry) (n : ℕ) (es : List SeenEntry) (old new : List (ℕ × ℕ)) → find (has_number n) es ≡ Some r → Changes r.moment n false old new → Lists old es → Lists new (without_number n es)
-unfolding Lists Changes
-listed_removed r n es old new found u l m k =
-    u (m, k)
-    ∙ ap (λ b. cond b false (list_any (is_at (pair_cmp (m, k))) old)) (pair_at r.moment n m k)
-    ∙ ap (cond (r.moment == m && n == k) false) (l m k)
-    ∙ removed_case m k n r es found
+  pub listed_removed : (r : SeenEntry) (n : ℕ) (es : List SeenEntry) (old new : List (ℕ × ℕ)) → find (has_number n) es ≡ Some r → Changes (part r) n false old new → AreListed part old es → AreListed part new (without_number n es)
+  unfolding Changes
+  listed_removed r n es old new found u l m k =
+      u (m, k)
+      ∙ ap (λ b. cond b false (list_any (is_at (pair_cmp (m, k))) old)) (pair_at (part r) n m k)
+      ∙ ap (cond (part r == m && n == k) false) (l m k)
+      ∙ removed_case m k n r es found
 
-undone_case : (m n a b : ℕ) (x : Bool) → (a ≡ m → b ≡ n → x ≡ false) → cond (a == m && b == n) false (cond (a == m && b == n) true x) ≡ x
-undone_case m n a b true h = grind (arith, nat_tests)
-undone_case m n a b false h = grind (arith, nat_tests)
+  undone_case : (m n a b : ℕ) (x : Bool) → (a ≡ m → b ≡ n → x ≡ false) → cond (a == m && b == n) false (cond (a == m && b == n) true x) ≡ x
+  undone_case m n a b true h = grind (arith, nat_tests)
+  undone_case m n a b false h = grind (arith, nat_tests)
 
--- a pair that came and went
-listed_undone : (e : SeenEntry) (es : List SeenEntry) (old mid new : List (ℕ × ℕ)) → find (has_number e.number) es ≡ None → Changes e.moment e.number true old mid → Changes e.moment e.number false mid new → Lists old es → Lists new es
-unfolding Lists Changes
-listed_undone e es old mid new none u v l m n =
-    v (m, n)
-    ∙ ap (cond (is_at (pair_cmp (e.moment, e.number)) (m, n)) false) (u (m, n))
-    ∙ ap (λ b. cond b false (cond b true (list_any (is_at (pair_cmp (m, n))) old))) (pair_at e.moment e.number m n)
-    ∙ undone_case m n e.moment e.number (list_any (is_at (pair_cmp (m, n))) old) (λ s t. l m n ∙ ap (has_moment m) (ap (λ k. find (has_number k) es) (sym t) ∙ none))
-    ∙ l m n
+  -- a pair that came and went
+  pub listed_undone : (e : SeenEntry) (es : List SeenEntry) (old mid new : List (ℕ × ℕ)) → find (has_number e.number) es ≡ None → Changes (part e) e.number true old mid → Changes (part e) e.number false mid new → AreListed part old es → AreListed part new es
+  unfolding Changes
+  listed_undone e es old mid new none u v l m n =
+      v (m, n)
+      ∙ ap (cond (is_at (pair_cmp (part e, e.number)) (m, n)) false) (u (m, n))
+      ∙ ap (λ b. cond b false (cond b true (list_any (is_at (pair_cmp (m, n))) old))) (pair_at (part e) e.number m n)
+      ∙ undone_case m n (part e) e.number (list_any (is_at (pair_cmp (m, n))) old) (λ s t. l m n ∙ ap (has_part part m) (ap (λ k. find (has_number k) es) (sym t) ∙ none))
+      ∙ l m n
 
-timeline_from : (pairs : List (ℕ × SeenEntry)) (moments : List (ℕ × ℕ)) (es : List SeenEntry) → pairs ≡ under_numbers es → IsStrictlySortedBy nat_cmp (keys_of pairs) → Lists moments es → IsTimeline pairs moments
-unfolding Lists
+timeline_from : (pairs : List (ℕ × SeenEntry)) (moments : List (ℕ × ℕ)) (es : List SeenEntry) → pairs ≡ under_numbers es → IsStrictlySortedBy nat_cmp (keys_of pairs) → AreListed moment_of moments es → IsTimeline pairs moments
 timeline_from pairs moments es k s l =
     let v = keyed_values pairs es k in
     record {
       keyed = k ∙ ap under_numbers (sym v);
       ordered = subst (IsStrictlySortedBy nat_cmp) (ap keys_of k ∙ keys_of-keyed nat_cmp number_of es ∙ ap (map number_of) (sym v)) s;
-      listed = λ m n. l m n ∙ ap (λ r. has_moment m (find (has_number n) r)) (sym v);
+      listed = λ m n. l m n ∙ ap (λ r. has_part moment_of m (find (has_number n) r)) (sym v);
     }
 
 -- after an entry came
 pub timeline_added : (pairs after : List (ℕ × SeenEntry)) (old new : List (ℕ × ℕ)) (e : SeenEntry) → IsTimeline pairs old → find (has_number e.number) (values_of pairs) ≡ None
     → after ≡ insert_entry nat_cmp pairs e.number e → IsStrictlySortedBy nat_cmp (keys_of after) → Changes e.moment e.number true old new → IsTimeline after new
-unfolding Lists
-timeline_added pairs after old new e t none h s u = timeline_from after new (insert_seen e (values_of pairs)) (keyed_added pairs after e t.keyed none h) s (listed_added e (values_of pairs) old new none u t.listed)
+timeline_added pairs after old new e t none h s u = timeline_from after new (insert_seen e (values_of pairs)) (keyed_added pairs after e t.keyed none h) s (listed_added moment_of e (values_of pairs) old new none u t.listed)
 
 -- after an entry went
 pub timeline_removed : (pairs after : List (ℕ × SeenEntry)) (old new : List (ℕ × ℕ)) (n : ℕ) (r : SeenEntry) → IsTimeline pairs old → find (has_number n) (values_of pairs) ≡ Some r
     → after ≡ remove_entry (is_at (nat_cmp n)) pairs → IsStrictlySortedBy nat_cmp (keys_of after) → Changes r.moment n false old new → IsTimeline after new
-unfolding Lists
-timeline_removed pairs after old new n r t found h s u = timeline_from after new (without_number n (values_of pairs)) (keyed_removed pairs after n t.keyed t.ordered h) s (listed_removed r n (values_of pairs) old new found u t.listed)
+timeline_removed pairs after old new n r t found h s u = timeline_from after new (without_number n (values_of pairs)) (keyed_removed pairs after n t.keyed t.ordered h) s (listed_removed moment_of r n (values_of pairs) old new found u t.listed)
 
 -- after an entry's moment came and went
 pub timeline_undone : (pairs after : List (ℕ × SeenEntry)) (old mid new : List (ℕ × ℕ)) (e : SeenEntry) → IsTimeline pairs old → find (has_number e.number) (values_of pairs) ≡ None
     → after ≡ pairs → Changes e.moment e.number true old mid → Changes e.moment e.number false mid new → IsTimeline after new
-unfolding Lists
 timeline_undone pairs after old mid new e t none same u v =
     subst (λ r. IsTimeline r new) (sym same)
-    (record { keyed = t.keyed; ordered = t.ordered; listed = listed_undone e (values_of pairs) old mid new none u v t.listed })
+    (record { keyed = t.keyed; ordered = t.ordered; listed = listed_undone moment_of e (values_of pairs) old mid new none u v t.listed })
 
 -- ---- the oldest moment
 
@@ -187,6 +179,24 @@ less_apart k n h = grind (arith, nat_tests)
 same_number : (n : ℕ) → (n == n) ≡ true
 same_number n = grind (arith, nat_tests)
 
+-- what is found is found by its number
+pub found_by_number : (t : SeenEntry → Bool) (es : List SeenEntry) (r : SeenEntry) → IsInOrder es → find t es ≡ Some r
+    → find (has_number r.number) es ≡ Some r
+found_by_number t [] r s h = cc
+found_by_number t (x ∷ es) r s h = by_test (t x) (found_by_number t es r (sorted_tail nat_cmp x.number (map number_of es) s)) h
+  where
+    above : AllByRecursion (λ q. nat_cmp x.number q ≡ Less) (map number_of es)
+    above = sorted_head nat_cmp x.number (map number_of es) s
+
+    by_test : (b : Bool) → (find t es ≡ Some r → find (has_number r.number) es ≡ Some r) → cond b (Some x) (find t es) ≡ Some r
+        → find (has_number r.number) (x ∷ es) ≡ Some r
+    by_test true more h =
+        subst (λ (y : SeenEntry). find (has_number y.number) (x ∷ es) ≡ Some y) (same_Some x r h)
+        (cond-true (x.number == x.number) (Some x) (find (has_number x.number) es) (same_number x.number))
+    by_test false more h =
+        cond-false (r.number == x.number) (Some x) (find (has_number r.number) es)
+        (less_apart x.number r.number (found_above t x.number es r above h)) ∙ more h
+
 -- a test that each entry passes which its number finds
 pub filter_found : (p : SeenEntry → Bool) (es : List SeenEntry) → IsInOrder es → ((e : SeenEntry) → find (has_number e.number) es ≡ Some e → p e ≡ true) → filter p es ≡ es
 filter_found p [] s h = refl
@@ -206,7 +216,7 @@ pub oldest_inside : (pairs : List (ℕ × SeenEntry)) (moments : List (ℕ × �
     → nat_lt (moment - accepted) window ≡ true → remembered moment (values_of pairs) ≡ values_of pairs
 oldest_inside pairs moments accepted number moment t least inside =
     filter_found (is_remembered moment) (values_of pairs) t.ordered
-    (λ e f. within accepted e.moment moment inside (not_after accepted number e.moment e.number (least (e.moment, e.number) (t.listed e.moment e.number ∙ ap (has_moment e.moment) f ∙ same_number e.moment))))
+    (λ e f. within accepted e.moment moment inside (not_after accepted number e.moment e.number (least (e.moment, e.number) (t.listed e.moment e.number ∙ ap (has_part moment_of e.moment) f ∙ same_number e.moment))))
   where
     within : (a b m : ℕ) → nat_lt (m - a) window ≡ true → a ≤ b → nat_lt (m - b) window ≡ true
     within a b m h k = grind (arith, nat_tests)
@@ -215,15 +225,15 @@ oldest_inside pairs moments accepted number moment t least inside =
 pub none_listed : (pairs : List (ℕ × SeenEntry)) (moments : List (ℕ × ℕ)) (p : SeenEntry → Bool) → IsTimeline pairs moments → moments ≡ [] → filter p (values_of pairs) ≡ values_of pairs
 none_listed pairs moments p t h =
     filter_found p (values_of pairs) t.ordered
-    (λ e f. let no : true ≡ false = sym (ap (has_moment e.moment) f ∙ same_number e.moment) ∙ sym (t.listed e.moment e.number) ∙ ap (list_any (is_at (pair_cmp (e.moment, e.number)))) h in cc)
+    (λ e f. let no : true ≡ false = sym (ap (has_part moment_of e.moment) f ∙ same_number e.moment) ∙ sym (t.listed e.moment e.number) ∙ ap (list_any (is_at (pair_cmp (e.moment, e.number)))) h in cc)
 
 -- what a number finds, where the moment beside it is outside the window
-pub found_outside : (moment accepted number : ℕ) (es : List SeenEntry) (r : Option SeenEntry) → has_moment accepted (find (has_number number) es) ≡ true → nat_lt (moment - accepted) window ≡ false
+pub found_outside : (moment accepted number : ℕ) (es : List SeenEntry) (r : Option SeenEntry) → has_part moment_of accepted (find (has_number number) es) ≡ true → nat_lt (moment - accepted) window ≡ false
     → r ≡ find (has_number number) es → MatchOption r (remembered moment es ≡ es) (λ e. (find (has_number e.number) es ≡ Some e) × (is_remembered moment e ≡ false))
-found_outside moment accepted number es None h out f = absurd (let no : false ≡ true = ap (has_moment accepted) f ∙ h in cc)
+found_outside moment accepted number es None h out f = absurd (let no : false ≡ true = ap (has_part moment_of accepted) f ∙ h in cc)
 found_outside moment accepted number es (Some e) h out f = (
   subst (λ n. find (has_number n) es ≡ Some e) (found_number number es e (sym f)) (sym f),
-  subst (λ m. nat_lt (moment - m) window ≡ false) (eqb-true accepted e.moment (ap (has_moment accepted) f ∙ h)) out,
+  subst (λ m. nat_lt (moment - m) window ≡ false) (eqb-true accepted e.moment (ap (has_part moment_of accepted) f ∙ h)) out,
 )
 
 pub found_left : (number : ℕ) (es new : List SeenEntry) (r : Option SeenEntry) → r ≡ find (has_number number) es → new ≡ without_number number es

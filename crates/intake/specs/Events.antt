@@ -62,7 +62,8 @@ event_with j name content = record {
 
 -- an event with a name and an object as its data; it may still be too large
 abbrev pub sized_event : ℕ → Json → EventIn → Result EventIn IntakeFault
-sized_event index j event = if nat_lt most_bytes (length (spelling j)) then Err (TooLarge index) else Ok event
+sized_event index j event =
+    if nat_lt most_bytes (length (spelling j)) then Err (TooLarge index) else Ok event
 
 abbrev pub contained_event : ℕ → Json → List ℕ → Option (List ℕ) → Result EventIn IntakeFault
 contained_event index j name None = Err (DataNotObject index)
@@ -72,15 +73,18 @@ abbrev pub named_event : ℕ → Json → Option (List ℕ) → Result EventIn I
 named_event index j None = Err (NoName index)
 named_event index j (Some name) = contained_event index j name (content_in (member_of j (codes "data")))
 
--- the event that a value is, in this place of the request: what is no object has no member, and so no name
+-- the event that a value is, in this place of the request: what is no object has no member, and so no
+-- name
 unfoldable pub event_of : ℕ → Json → Result EventIn IntakeFault
 event_of index j = named_event index j (text_in (member_of j (codes "name")))
 
-abbrev pub before_events : EventIn → Result (List EventIn) IntakeFault → Result (List EventIn) IntakeFault
+abbrev pub before_events : EventIn → Result (List EventIn) IntakeFault
+    → Result (List EventIn) IntakeFault
 before_events event (Ok events) = Ok (event ∷ events)
 before_events event (Err fault) = Err fault
 
-abbrev pub with_events : Result EventIn IntakeFault → Result (List EventIn) IntakeFault → Result (List EventIn) IntakeFault
+abbrev pub with_events : Result EventIn IntakeFault → Result (List EventIn) IntakeFault
+    → Result (List EventIn) IntakeFault
 with_events (Ok event) events = before_events event events
 with_events (Err fault) events = Err fault
 

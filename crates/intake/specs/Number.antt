@@ -2,6 +2,9 @@
 use Rattle.std.specs.Prelude.{ℕ, ◌==◌, Bool, not, List, filter}
 use Rattle.kinds.specs.declared.seen.SeenEntry.{SeenEntry}
 
+abbrev pub number_of : SeenEntry → ℕ
+number_of entry = entry.number
+
 abbrev pub has_number : ℕ → SeenEntry → Bool
 has_number number entry = number == entry.number
 

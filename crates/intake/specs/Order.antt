@@ -16,9 +16,18 @@ IsInOrder entries = IsStrictlySortedBy nat_cmp (map (λ (e : SeenEntry). e.numbe
 abbrev pub pair_cmp : ℕ × ℕ → ℕ × ℕ → Ordering
 pair_cmp a b = ordering_then (nat_cmp a.0 b.0) (nat_cmp a.1 b.1)
 
-abbrev pub has_moment : ℕ → Option SeenEntry → Bool
-has_moment moment None = false
-has_moment moment (Some entry) = moment == entry.moment
+abbrev pub moment_of : SeenEntry → ℕ
+moment_of entry = entry.moment
+
+abbrev pub has_part : (SeenEntry → ℕ) → ℕ → Option SeenEntry → Bool
+has_part part p None = false
+has_part part p (Some entry) = p == part entry
+
+-- a set has a part and the number of each entry, and no more
+abbrev pub AreListed : (SeenEntry → ℕ) → List (ℕ × ℕ) → List SeenEntry → Type 0
+AreListed part pairs entries =
+    (p number : ℕ) → list_any (is_at (pair_cmp (p, number))) pairs
+    ≡ has_part part p (find (has_number number) entries)
 
 -- the entries of a map under their numbers
 abbrev pub under_numbers : List SeenEntry → List (ℕ × SeenEntry)
@@ -28,4 +37,4 @@ under_numbers entries = map (λ (e : SeenEntry). (e.number, e)) entries
 pub record IsTimeline (entries : List (ℕ × SeenEntry)) (moments : List (ℕ × ℕ)) : Type 0 where
   pub keyed : entries ≡ under_numbers (values_of entries)
   pub ordered : IsInOrder (values_of entries)
-  pub listed : (moment number : ℕ) → list_any (is_at (pair_cmp (moment, number))) moments ≡ has_moment moment (find (has_number number) (values_of entries))
+  pub listed : AreListed moment_of moments (values_of entries)

@@ -19,8 +19,8 @@ const MOST_EVENTS: usize = 1_000;
 const MOST_BYTES: usize = 262_144;
 
 /// Reads the body of a request of events: one event, or an array of at most 1,000. A body is refused
-/// whole, for the first of its faults in the order of the variants of `IntakeFault`; the faults of events
-/// are found event by event.
+/// whole, for the first of its faults in the order of the variants of `IntakeFault`; the faults of
+/// events are found event by event.
 #[tactic(auto, unfolding(crate::specs::Events::events_in_body))]
 pub fn read_events(alloc: Global, body: &[u8]) -> Result<Items<EventIn>, IntakeFault>
     ensures { OrStarved fault.Memory (events_in_body body.now) result }

@@ -54,7 +54,8 @@ fn not_empty(text: Bytes) -> Option<Bytes>
 /// The member `data` as it stands: an object, and an empty one where the member is absent or null.
 pub(crate) fn content_in<'a>(tree: &Tree<'a>, node: Node) -> Option<&'a [u8]>
     requires { IsNodeOf tree.now node }
-    ensures { option_map (λ c. c.now) result ≡ content_in (member_of (value_at tree.now node) (codes "data")) }
+    ensures { option_map (λ c. c.now) result ≡
+        content_in (member_of (value_at tree.now node) (codes "data")) }
 {
     let Some(member) = tree.member(node, b"data") else {
         return Some(b"{}");

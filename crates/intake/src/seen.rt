@@ -3,20 +3,13 @@ ghost use Rattle.std.specs.Bool.{OnFalse, OnTrue};
 ghost use Rattle.kinds.specs.Seen.{find_seen, note_seen, remembered, weight_of};
 ghost use Rattle.intake.specs.Number.{has_number};
 
-use crate::timeline::{Entries, Timeline};
+use crate::placed::Placed;
+use crate::timeline::Entries;
 use crate::window::is_inside;
 use kinds::SeenEntry;
 use lists::{Bytes, Memory};
 use std::alloc::Global;
-use std::collections::BTreeMap;
 use std::marker::Model;
-
-/// What is known of an id without its entry.
-#[derive(Clone, Copy)]
-struct Place {
-    number: u64,
-    moment: u64,
-}
 
 /// The event ids that tell a repeated event: each has the number of its event and the moment when it
 /// was accepted, in milliseconds since 1970, and tells for less than 86,400,000 ms. Contracts see the
@@ -24,21 +17,20 @@ struct Place {
 #[derive(Drop)]
 pub struct Seen {
     alloc: Global,
-    timeline: Timeline,
-    places: BTreeMap<Vec<u8>, Place>,
+    placed: Placed,
     weight: u64,
 }
 
 impl Model for Seen {
-    ghost use Rattle.std.specs.Prelude.{List, map};
+    ghost use Rattle.std.specs.Prelude.{List};
     ghost use Rattle.kinds.specs.declared.seen.SeenEntry.{SeenEntry};
     ghost use Rattle.intake.specs.Places.{IsSeen};
 
     ghost Value = { List SeenEntry };
 
-    ghost view = { λ s. s.timeline };
+    ghost view = { λ s. s.placed };
 
-    ghost invariant = { λ s. IsSeen s.timeline (map (λ e. (e.0.items, e.1)) s.places.entries) s.weight };
+    ghost invariant = { λ s. IsSeen s.placed s.weight };
 }
 
 impl Seen {
@@ -48,8 +40,7 @@ impl Seen {
     {
         Seen {
             alloc,
-            timeline: Timeline::empty(alloc),
-            places: BTreeMap::new(alloc),
+            placed: Placed::empty(alloc),
             weight: 0,
         }
     }
@@ -59,9 +50,9 @@ impl Seen {
     pub fn find(&self, id: &[u8], moment: u64) -> Option<u64>
         ensures { result ≡ find_seen id.now moment self.now }
     {
-        let place = self.places.get(id)?;
-        if is_inside(place.moment, moment) {
-            Some(place.number)
+        let entry = self.placed.with_id(id)?;
+        if is_inside(entry.moment, moment) {
+            Some(entry.number)
         } else {
             None
         }
@@ -72,24 +63,21 @@ impl Seen {
     pub fn note(&mut self, id: &[u8], number: u64, moment: u64) -> Result<(), Memory>
         requires unseen { find_seen id.now moment self.old ≡ None }
         requires fresh { find (has_number number) self.old ≡ None }
-        ensures ok { OnOk result (self.new ≡ note_seen (record { id = id.now; number = number; moment = moment }) self.old) }
+        ensures ok { OnOk result (self.new ≡
+            note_seen (record { id = id.now; number = number; moment = moment }) self.old) }
         ensures err { OnErr result (self.new ≡ self.old) }
     {
         let grown = self.weight.checked_add(id.len() as u64 + 64).ok_or(Memory)?;
-        let key = Vec::from_slice(self.alloc, id)?;
+        let held = self.placed.number_of(id);
         let entry = SeenEntry {
             id: Bytes::from_slice(self.alloc, id)?,
             number,
             moment,
         };
-        self.timeline.add(entry)?;
-        match self.places.insert(key, Place { number, moment }) {
-            Ok(Some(old)) => self.timeline.discard(old.number),
-            Ok(None) => self.weight = grown,
-            Err(_) => {
-                self.timeline.discard(number);
-                return Err(Memory);
-            }
+        self.placed.add(entry)?;
+        match held {
+            Some(old) => self.placed.discard(old),
+            None => self.weight = grown,
         }
         Ok(())
     }
@@ -107,9 +95,8 @@ impl Seen {
             × (length self.new < length self.old)) }
         ensures left { OnFalse result ((self.new ≡ self.old) × (remembered moment self.old ≡ self.old)) }
     {
-        match self.timeline.take_outside(moment) {
+        match self.placed.take_outside(moment) {
             Some(entry) => {
-                self.places.remove(entry.id.as_slice());
                 self.weight -= entry.id.len() as u64 + 64;
                 true
             }
@@ -128,6 +115,6 @@ impl Seen {
     pub fn entries(&self) -> Entries<'_>
         ensures { result ≡ self.now }
     {
-        self.timeline.entries()
+        self.placed.entries()
     }
 }

@@ -1,7 +1,9 @@
-ghost use Rattle.std.specs.Prelude.{◌≡◌, [], length, OnOk, OnErr, find, MatchOption, false};
+ghost use Rattle.std.specs.Prelude.{◌≡◌, [], OnOk, OnErr, find, MatchOption, false};
+ghost use Rattle.std.specs.Option.{option_copied};
 ghost use Rattle.kinds.specs.Seen.{insert_seen, remembered, is_remembered};
 ghost use Rattle.intake.specs.Number.{has_number, without_number};
 ghost use Rattle.intake.specs.Order.{IsInOrder};
+ghost use Rattle.intake.specs.Places.{is_of};
 
 use crate::window::is_inside;
 use kinds::SeenEntry;
@@ -60,6 +62,30 @@ impl Timeline {
         }
     }
 
+    /// The entries stand in order of number. Does nothing.
+    pub(crate) fn order(&self)
+        ensures { IsInOrder self.now }
+    {
+        let _ = &self.entries;
+    }
+
+    /// The entry that has a number.
+    pub(crate) fn get(&self, number: u64) -> Option<&SeenEntry>
+        ensures { option_copied result ≡ find (has_number number) self.now }
+    {
+        self.entries.get(&number)
+    }
+
+    /// Whether the entry that has a number has the id.
+    pub(crate) fn has_id(&self, id: &[u8], number: u64) -> bool
+        ensures { result ≡ is_of id.now (find (has_number number) self.now) }
+    {
+        match self.get(number) {
+            Some(entry) => id == entry.id.as_slice(),
+            None => false,
+        }
+    }
+
     /// Takes out the entry that has a number.
     pub(crate) fn remove(&mut self, number: u64) -> Option<SeenEntry>
         ensures value { result ≡ find (has_number number) self.old }
@@ -69,13 +95,6 @@ impl Timeline {
         let entry = self.entries.remove(&number)?;
         self.moments.remove(&(entry.moment, number));
         Some(entry)
-    }
-
-    /// Drops the entry that has a number, if there is one.
-    pub(crate) fn discard(&mut self, number: u64)
-        ensures { self.new ≡ without_number number self.old }
-    {
-        let _ = self.remove(number);
     }
 
     /// Takes out an entry that a moment is outside the window of, if there is one.

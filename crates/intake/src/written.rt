@@ -1,4 +1,4 @@
-ghost use Rattle.std.specs.Prelude.{◌≡◌, ◌++◌, IfOk, OnOk, codes};
+ghost use Rattle.std.specs.Prelude.{◌≡◌, ◌++◌, IfOk, OnOk};
 ghost use Rattle.intake.specs.Events.{event_text, further_member, id_text, ts_text};
 
 use json_text::put_text;
@@ -6,10 +6,19 @@ use kinds::EventIn;
 use lists::{Bytes, Memory};
 use std::alloc::Global;
 
-/// The text that an accepted event goes on as, with its number and its moment in milliseconds since 1970:
-/// `{"name":N,"data":D,"id":I,"ts":T,"user":U,"v":V}`, the last two only where the source has them.
-#[tactic(auto, unfolding(crate::specs::Events::event_text))]
+/// The text that an accepted event goes on as, with its number and its moment in milliseconds since
+/// 1970: `{"name":N,"data":D,"id":I,"ts":T,"user":U,"v":V}`, the last two only where the source has
+/// them. It is kept as long as the event, and has no more room than its length.
 pub fn event_text(alloc: Global, event: &EventIn, number: u64, moment: u64) -> Result<Bytes, Memory>
+    ensures { IfOk result (λ text. text ≡ event_text number moment event.now) }
+{
+    let grown = grown_text(alloc, event, number, moment)?;
+    Bytes::from_slice(alloc, grown.as_slice())
+}
+
+/// The text in the room that it came to as it grew, up to twice its length.
+#[tactic(auto, unfolding(crate::specs::Events::event_text))]
+fn grown_text(alloc: Global, event: &EventIn, number: u64, moment: u64) -> Result<Bytes, Memory>
     ensures { IfOk result (λ text. text ≡ event_text number moment event.now) }
 {
     let mut text = Bytes::from_slice(alloc, b"{\"name\":")?;

@@ -192,8 +192,8 @@ fn members(rt: HostRuntime) -> Result<(), Fail> {
 
 #[test]
 fn ids_are_equal_as_texts(rt: HostRuntime) -> Result<(), Fail> {
-    let body =
-        b"[{\"name\":\"x\",\"id\":\"\\u0061\"},{\"name\":\"x\",\"id\":\"a\"},{\"name\":\"x\",\"id\":\"\"}]";
+    let body = b"[{\"name\":\"x\",\"id\":\"\\u0061\"},{\"name\":\"x\",\"id\":\"a\"},\
+        {\"name\":\"x\",\"id\":\"\"}]";
     let events = read_events(rt.alloc(), body)?;
     let [first, second, third] = events.as_slice() else {
         return Err(Fail::new("not three events"));
@@ -381,13 +381,15 @@ fn event_texts(rt: HostRuntime) -> Result<(), Fail> {
         &rt,
         rt.alloc(),
         &event,
-        b"{\"name\":\"shop/\\u0001\",\"data\":{\"p\":1.50,\"q\":1e2},\"id\":\"evt-18446744073709551615\",\"ts\":0}",
+        b"{\"name\":\"shop/\\u0001\",\"data\":{\"p\":1.50,\"q\":1e2},\
+        \"id\":\"evt-18446744073709551615\",\"ts\":0}",
     )?;
     let event = with_members(rt.alloc(), event)?;
     has_text(
         &rt,
         rt.alloc(),
         &event,
-        b"{\"name\":\"shop/\\u0001\",\"data\":{\"p\":1.50,\"q\":1e2},\"id\":\"\\\"\\\\\\u001f\",\"ts\":1e3,\"user\":{\"id\":7},\"v\":\"2024-01-01\"}",
+        b"{\"name\":\"shop/\\u0001\",\"data\":{\"p\":1.50,\"q\":1e2},\"id\":\"\\\"\\\\\\u001f\",\
+        \"ts\":1e3,\"user\":{\"id\":7},\"v\":\"2024-01-01\"}",
     )
 }

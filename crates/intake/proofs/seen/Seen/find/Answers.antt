@@ -1,22 +1,23 @@
 use Rattle.std.proofs.Common.{cond, None, Some, sym, ◌∙◌, ap}
 use Rattle.kinds.specs.Seen.{find_seen}
 use Rattle.intake.proofs.seen.Seen.find.Goals as goal
-use Rattle.lists.proofs.Texts.{text_found}
-use Rattle.intake.proofs.Ids.{seen_from_none, seen_from_some}
+use Rattle.intake.proofs.Ids.{entry_of, find_seen_at, seen_at}
 
-pub returns-in_err-place : goal.returns-in_err-place
-returns-in_err-place c =
-    c.from_residual.ensures ∙ seen_from_none c.args.id.now c.args.moment _ _ _ c.self.invariant (c.in_err-place.ensures.value ∙ text_found _ c.args.id.now _)
+pub returns-in_err-entry : goal.returns-in_err-entry
+returns-in_err-entry c =
+    c.from_residual.ensures
+    ∙ sym (find_seen_at c.args.id.now c.args.moment c.self.inside.placed c.self.invariant.apart
+    ∙ ap (seen_at c.args.moment) (sym (entry_of c.args.id.now c.self.inside.placed None c.self.invariant.apart c.in_err-entry.ensures)))
     ∙ ap (find_seen c.args.id.now c.args.moment) c.self.view_is
 
 pub returns-then-is_inside : goal.returns-then-is_inside
 returns-then-is_inside c =
-    sym (ap (find_seen c.args.id.now c.args.moment) (sym c.self.view_is)
-    ∙ seen_from_some c.args.id.now c.args.moment _ _ _ c.in_ok-place.place.now c.self.invariant (c.in_ok-place.ensures.value ∙ text_found _ c.args.id.now _)
-    ∙ ap (λ b. cond b (Some c.in_ok-place.place.now.number) None) (sym c.is_inside.ensures ∙ c.if-is_inside.true))
+    sym (sym (ap (find_seen c.args.id.now c.args.moment) c.self.view_is) ∙ find_seen_at c.args.id.now c.args.moment c.self.inside.placed c.self.invariant.apart
+    ∙ ap (seen_at c.args.moment) (sym (entry_of c.args.id.now c.self.inside.placed (Some c.in_ok-entry.entry.now) c.self.invariant.apart c.in_ok-entry.ensures))
+    ∙ ap (λ b. cond b (Some c.in_ok-entry.entry.now.number) None) (sym c.is_inside.ensures ∙ c.if-is_inside.true))
 
 pub returns-else-is_inside : goal.returns-else-is_inside
 returns-else-is_inside c =
-    sym (ap (find_seen c.args.id.now c.args.moment) (sym c.self.view_is)
-    ∙ seen_from_some c.args.id.now c.args.moment _ _ _ c.in_ok-place.place.now c.self.invariant (c.in_ok-place.ensures.value ∙ text_found _ c.args.id.now _)
-    ∙ ap (λ b. cond b (Some c.in_ok-place.place.now.number) None) (sym c.is_inside.ensures ∙ c.if-is_inside.false))
+    sym (sym (ap (find_seen c.args.id.now c.args.moment) c.self.view_is) ∙ find_seen_at c.args.id.now c.args.moment c.self.inside.placed c.self.invariant.apart
+    ∙ ap (seen_at c.args.moment) (sym (entry_of c.args.id.now c.self.inside.placed (Some c.in_ok-entry.entry.now) c.self.invariant.apart c.in_ok-entry.ensures))
+    ∙ ap (λ b. cond b (Some c.in_ok-entry.entry.now.number) None) (sym c.is_inside.ensures ∙ c.if-is_inside.false))

@@ -3,7 +3,7 @@ use Rattle.std.specs.List.{find}
 use Rattle.kinds.specs.declared.seen.SeenEntry.{SeenEntry}
 use Rattle.kinds.specs.Seen.{remembered, is_remembered}
 use Rattle.intake.specs.Number.{has_number}
-use Rattle.intake.specs.Order.{has_moment}
+use Rattle.intake.specs.Order.{has_part, moment_of}
 use Rattle.intake.proofs.timeline.Timeline.take_outside.Goals as goal
 use Rattle.intake.proofs.Numbers.{none_listed, oldest_inside, found_outside, found_left, none_from_variant}
 
@@ -20,7 +20,7 @@ pub returns-clause-taken : goal.returns-clause-taken
 returns-clause-taken c =
     let listed = c.self.invariant.listed c.in_ok-accepted.field-0.now.0 c.in_ok-accepted.field-0.now.1 in
     found_outside c.args.moment c.in_ok-accepted.field-0.now.0 c.in_ok-accepted.field-0.now.1 c.args.self.now c.remove.result
-    (ap (λ es. has_moment c.in_ok-accepted.field-0.now.0 (find (has_number c.in_ok-accepted.field-0.now.1) es)) (sym c.self.view_is) ∙ sym listed ∙ c.in_ok-accepted.ensures.member)
+    (ap (λ es. has_part moment_of c.in_ok-accepted.field-0.now.0 (find (has_number c.in_ok-accepted.field-0.now.1) es)) (sym c.self.view_is) ∙ sym listed ∙ c.in_ok-accepted.ensures.member)
     (sym c.is_inside.ensures ∙ c.if-is_inside.false) c.remove.ensures.value
 
 pub returns-clause-left : goal.returns-clause-left
