@@ -1,3 +1,4 @@
+pub mod Boxed
 pub mod Changes
 pub mod Ended
 pub mod Indexes

@@ -3,6 +3,7 @@
 #![tactic(auto)]
 
 mod boxed;
+mod boxed_steps;
 mod ended;
 mod list;
 mod map;

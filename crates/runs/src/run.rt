@@ -5,13 +5,13 @@ ghost use Rattle.runs.specs.Runs.{IsBounded, first_of, score_of, bytes_of_steps}
 ghost use Rattle.runs.specs.Changes.{IsNoted, want, called, result_for, with_result, with_plan, with_pending, is_new_result, keep_in, plan_in, pend_in};
 ghost use Rattle.runs.specs.Origin.{run_of};
 
+use crate::Naming;
+use crate::boxed_steps::BoxedSteps;
 use crate::results::state_too_large;
-use crate::{Naming, steps};
 use kinds::{
     Cell, CellLimit, CellLimits, Numbers, Parent, Pending, StepEntry, StepHash, error_object,
 };
 use lists::{Bytes, Memory};
-use run_state::{Active, Fresh};
 use std::alloc::Global;
 use std::marker::Model;
 
@@ -54,7 +54,7 @@ pub struct Run {
     planned: bool,
     started: bool,
     parent: Option<Parent>,
-    steps: Active,
+    steps: BoxedSteps,
     /// The bytes of its results.
     bytes: u64,
 }
@@ -102,7 +102,7 @@ impl Run {
             planned: false,
             started: false,
             parent: origin.parent,
-            steps: Fresh::empty(alloc).begin(),
+            steps: BoxedSteps::empty(),
             bytes: 0,
         }
     }
@@ -195,7 +195,7 @@ impl Run {
     pub fn steps(&self) -> &[StepEntry]
         ensures { result.now ≡ self.now.steps.recorded }
     {
-        self.steps.steps()
+        self.steps.recorded()
     }
 
     /// The result of a recorded step.
@@ -269,7 +269,7 @@ impl Run {
         ensures err { OnErr result (self.new ≡ self.old) }
     {
         let bytes = self.bytes.checked_add(text.len() as u64).ok_or(Memory)?;
-        let naming = steps::keep(&mut self.steps, self.alloc, hash, text)?;
+        let naming = self.steps.keep(self.alloc, hash, text)?;
         match naming {
             Naming::New => {
                 self.bytes = bytes;
@@ -288,7 +288,7 @@ impl Run {
         ensures err { OnErr result (self.new ≡ self.old) }
     {
         let bytes = self.bytes.checked_add(text.len() as u64).ok_or(Memory)?;
-        steps::wake(&mut self.steps, self.alloc, hash, text)?;
+        self.steps.wake(self.alloc, hash, text)?;
         self.bytes = bytes;
         self.wanted = true;
         Ok(())
@@ -300,7 +300,7 @@ impl Run {
             IsNoted (plan_in hash.now self.old) (with_plan hash.now self.old) self.old naming self.new) }
         ensures err { OnErr result (self.new ≡ self.old) }
     {
-        match steps::plan(&mut self.steps, self.alloc, hash)? {
+        match self.steps.plan(self.alloc, hash)? {
             Naming::New => {
                 self.planned = true;
                 Ok(Naming::New)
@@ -316,6 +316,6 @@ impl Run {
             IsNoted (pend_in hash.now kind self.old) (with_pending hash.now kind self.old) self.old naming self.new) }
         ensures err { OnErr result (self.new ≡ self.old) }
     {
-        steps::pend(&mut self.steps, self.alloc, hash, kind)
+        self.steps.pend(self.alloc, hash, kind)
     }
 }
