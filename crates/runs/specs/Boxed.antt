@@ -6,3 +6,8 @@ use Rattle.kinds.specs.RunSteps.{RunSteps, no_steps}
 abbrev pub steps_in : {Z : Type 0} → Option (Box RunSteps Z) → RunSteps
 steps_in None = no_steps
 steps_in (Some steps) = box_value steps
+
+-- a part that few runs have
+abbrev pub unboxed : {X Z : Type 0} → Option (Box X Z) → Option X
+unboxed None = None
+unboxed (Some part) = Some (box_value part)

@@ -9,6 +9,7 @@ mod list;
 mod map;
 mod mentions;
 mod naming;
+mod rare;
 mod results;
 mod row;
 mod run;

@@ -7,6 +7,7 @@ ghost use Rattle.runs.specs.Origin.{run_of};
 
 use crate::Naming;
 use crate::boxed_steps::BoxedSteps;
+use crate::rare::boxed;
 use crate::results::state_too_large;
 use kinds::{
     Cell, CellLimit, CellLimits, Numbers, Parent, Pending, StepEntry, StepHash, error_object,
@@ -48,12 +49,12 @@ pub struct Run {
     version: u64,
     events: Numbers,
     cells: CellLimits,
-    start: Option<Cell>,
+    start: Option<Box<Cell>>,
     shift: i64,
     wanted: bool,
     planned: bool,
     started: bool,
-    parent: Option<Parent>,
+    parent: Option<Box<Parent>>,
     steps: BoxedSteps,
     /// The bytes of its results.
     bytes: u64,
@@ -61,6 +62,7 @@ pub struct Run {
 
 impl Model for Run {
     ghost use Rattle.std.specs.Prelude.{◌≡◌};
+    ghost use Rattle.runs.specs.Boxed.{unboxed};
     ghost use Rattle.runs.specs.Runs.{Run, IsBounded, bytes_of_steps};
 
     ghost Value = { Run };
@@ -71,12 +73,12 @@ impl Model for Run {
       version = r.version;
       events = r.events;
       cells = r.cells;
-      start = r.start;
+      start = unboxed r.start;
       shift = r.shift;
       wanted = r.wanted;
       planned = r.planned;
       started = r.started;
-      parent = r.parent;
+      parent = unboxed r.parent;
       steps = r.steps;
     } };
 
@@ -85,26 +87,38 @@ impl Model for Run {
 
 impl Run {
     /// A run that wants its first call.
-    pub fn new(alloc: Global, origin: Origin) -> Self
+    pub fn new(alloc: Global, origin: Origin) -> Result<Self, Memory>
         requires { IsBounded origin.moment origin.shift }
-        ensures { result ≡ run_of origin }
+        ensures { IfOk result (λ run. run ≡ run_of origin) }
     {
-        Run {
+        let Origin {
+            number,
+            moment,
+            version,
+            events,
+            cells,
+            start,
+            shift,
+            parent,
+        } = origin;
+        let start = boxed(alloc, start)?;
+        let parent = boxed(alloc, parent)?;
+        Ok(Run {
             alloc,
-            number: origin.number,
-            moment: origin.moment,
-            version: origin.version,
-            events: origin.events,
-            cells: origin.cells,
-            start: origin.start,
-            shift: origin.shift,
+            number,
+            moment,
+            version,
+            events,
+            cells,
+            start,
+            shift,
             wanted: true,
             planned: false,
             started: false,
-            parent: origin.parent,
+            parent,
             steps: BoxedSteps::empty(),
             bytes: 0,
-        }
+        })
     }
 
     pub fn number(&self) -> u64
@@ -152,7 +166,10 @@ impl Run {
     pub fn start(&self) -> Option<&Cell>
         ensures { option_copied result ≡ self.now.start }
     {
-        self.start.as_ref()
+        match &self.start {
+            Some(cell) => Some(&**cell),
+            None => None,
+        }
     }
 
     /// In the order of scores runs of one moment go, and those of others: the lesser comes first. It is the
@@ -188,7 +205,10 @@ impl Run {
     pub fn parent(&self) -> Option<Parent>
         ensures { result ≡ self.now.parent }
     {
-        self.parent
+        match &self.parent {
+            Some(parent) => Some(**parent),
+            None => None,
+        }
     }
 
     /// The recorded steps in the order of recording, as a call sends them.
