@@ -4,6 +4,7 @@
 
 mod boxed;
 mod boxed_steps;
+mod counted;
 mod ended;
 mod list;
 mod map;
