@@ -105,7 +105,7 @@ impl Parts {
     {
         self.loose.touch(origin.version, origin.events.as_slice())?;
         self.counts.runs = origin.number;
-        let run = Run::new(self.alloc, origin);
+        let run = Run::new(self.alloc, origin)?;
         let item = self.item_of(&run, STEP)?;
         self.counts.entries = item.number;
         self.runs.add(run)?;

@@ -1,3 +1,4 @@
+pub mod Counting
 pub mod Fill
 pub mod Kept
 pub mod Listed

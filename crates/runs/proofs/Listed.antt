@@ -19,10 +19,12 @@ use Rattle.lists.proofs.Stored.{IsStored, InsertsByNumber, stored_empty, stored_
 use Rattle.lists.specs.Entries.{has, without, insert_by, AreApart, pair_cmp}
 use Rattle.runs.specs.Changes.{changed, if_new, keep_in, naming_in, naming_of, record_in, result_for, with_result}
 use Rattle.runs.specs.Indexes.{IsIndexed, changed_at, held}
+use Rattle.runs.specs.Counts.{count_of, IsCounted, IsLowered, IsRaised}
 use Rattle.runs.specs.Mentions.{mentions, numbers_of, IsJoined, IsParted, IsTold}
-use Rattle.runs.specs.Runs.{Run, AreDisjoint, with_run, bytes_of_results, bytes_of_steps, events_of, has_version, is_in, names_event, run_at, run_number, version_of}
+use Rattle.runs.specs.Runs.{Run, AreDisjoint, with_run, bytes_of_results, bytes_of_steps, events_of, has_version, names_event, run_at, run_number, version_of}
 use Rattle.runs.specs.declared.naming.Naming.{Naming}
 use Rattle.runs.specs.declared.naming.Naming.TheVariants.{New, Known, Full}
+use Rattle.runs.proofs.Counting.{counted_any, counted_changed, counted_empty, counted_left, counted_put}
 use Rattle.runs.proofs.Numbers.{Rises}
 use Rattle.runs.proofs.Told.{told_changed, told_empty, told_left, told_none, told_numbers, told_put, told_some}
 
@@ -158,7 +160,7 @@ indexed_empty entries events versions e a b = subst (λ es. IsIndexed es 0 event
   stored = stored_empty nat_cmp run_number [] refl;
   summed = refl;
   named = told_empty run_number events_of events a;
-  of_version = told_empty run_number version_of versions b;
+  of_version = counted_empty run_number version_of versions b;
 })
 
 lt_same : (a b : ℕ) → is_lt (nat_cmp a b) ≡ nat_lt a b
@@ -175,7 +177,7 @@ module _ (old : List (ℕ × Run)) (bytes : ℕ) (events versions : List (ℕ ×
   indexed_apart = apart_rising (values_of old) i.stored.ordered
 
   put_at : (new : List (ℕ × Run)) (r : Run) (n : ℕ) (more others : List (ℕ × ℕ)) → run_at r.number (values_of old) ≡ None → new ≡ insert_entry nat_cmp old r.number r → IsStrictlySortedBy nat_cmp (keys_of new)
-      → n ≡ bytes + bytes_of r → IsJoined r.events r.number events more → IsJoined (r.version ∷ []) r.number versions others
+      → n ≡ bytes + bytes_of r → IsJoined r.events r.number events more → IsRaised r.version versions others
       → (values_of new ≡ insert_by run_number r (values_of old)) × IsIndexed new n more others
   put_at new r n more others none e s b j k =
       let put = numbered_put run_number by_number old new r i.stored none e s in (
@@ -184,21 +186,21 @@ module _ (old : List (ℕ × Run)) (bytes : ℕ) (events versions : List (ℕ ×
           stored = put.1;
           summed = b ∙ ap (λ m. m + bytes_of r) i.summed ∙ sym (bytes_put r (values_of old)) ∙ ap bytes_of_results (sym put.0);
           named = subst (λ xs. IsTold run_number events_of xs more) (sym put.0) (told_put run_number events_of r (values_of old) events more i.named j);
-          of_version = subst (λ xs. IsTold run_number version_of xs others) (sym put.0) (told_put run_number version_of r (values_of old) versions others i.of_version k);
+          of_version = subst (λ xs. IsCounted version_of xs others) (sym put.0) (counted_put run_number version_of r (values_of old) versions others i.of_version k);
         },
       )
 
   -- a run comes, by what the calls say of it
-  pub indexed_put : (new : List (ℕ × Run)) (r : Run) (k n size : ℕ) (evs vs : List ℕ) (more others : List (ℕ × ℕ)) → k ≡ r.number → evs ≡ r.events → vs ≡ r.version ∷ [] → size ≡ bytes_of r
-      → run_at r.number (values_of old) ≡ None → new ≡ insert_entry nat_cmp old k r → IsStrictlySortedBy nat_cmp (keys_of new) → n ≡ bytes + size → IsJoined evs k events more → IsJoined vs k versions others
+  pub indexed_put : (new : List (ℕ × Run)) (r : Run) (k n size v : ℕ) (evs : List ℕ) (more others : List (ℕ × ℕ)) → k ≡ r.number → evs ≡ r.events → v ≡ r.version → size ≡ bytes_of r
+      → run_at r.number (values_of old) ≡ None → new ≡ insert_entry nat_cmp old k r → IsStrictlySortedBy nat_cmp (keys_of new) → n ≡ bytes + size → IsJoined evs k events more → IsRaised v versions others
       → (values_of new ≡ insert_by run_number r (values_of old)) × IsIndexed new n more others
-  indexed_put new r k n size evs vs more others same a b c none e s sum j l =
+  indexed_put new r k n size v evs more others same a b c none e s sum j l =
       put_at new r n more others none (e ∙ ap (λ q. insert_entry nat_cmp old q r) same) s (sum ∙ ap (λ m. bytes + m) c)
       (subst (λ q. IsJoined r.events q events more) same (subst (λ xs. IsJoined xs k events more) a j))
-      (subst (λ q. IsJoined (r.version ∷ []) q versions others) same (subst (λ xs. IsJoined xs k versions others) b l))
+      (subst (λ q. IsRaised q versions others) b l)
 
   left_at : (new : List (ℕ × Run)) (number : ℕ) (r : Run) (n : ℕ) (fewer others : List (ℕ × ℕ)) → Some r ≡ held number old → new ≡ remove_entry (is_at (nat_cmp number)) old → IsStrictlySortedBy nat_cmp (keys_of new)
-      → n ≡ bytes - bytes_of r → IsParted r.events number events fewer → IsParted (r.version ∷ []) number versions others
+      → n ≡ bytes - bytes_of r → IsParted r.events number events fewer → IsLowered r.version versions others
       → (values_of new ≡ without run_number number (values_of old)) × IsIndexed new n fewer others
   left_at new number r n fewer others h e s b j k =
       let left = numbered_left run_number old new number i.stored e s in
@@ -211,18 +213,18 @@ module _ (old : List (ℕ × Run)) (bytes : ℕ) (events versions : List (ℕ ×
           stored = left.1;
           summed = rest ∙ ap bytes_of_results (sym left.0);
           named = subst (λ xs. IsTold run_number events_of xs fewer) (sym left.0) (told_left run_number events_of number r (values_of old) events fewer indexed_apart i.named found j);
-          of_version = subst (λ xs. IsTold run_number version_of xs others) (sym left.0) (told_left run_number version_of number r (values_of old) versions others indexed_apart i.of_version found k);
+          of_version = subst (λ xs. IsCounted version_of xs others) (sym left.0) (counted_left run_number version_of number r (values_of old) versions others indexed_apart i.of_version found k);
         },
       )
 
   -- a run goes, by what the calls say of it
-  pub indexed_left : (new : List (ℕ × Run)) (number : ℕ) (r : Run) (n size : ℕ) (evs vs : List ℕ) (fewer others : List (ℕ × ℕ)) → evs ≡ r.events → vs ≡ r.version ∷ [] → size ≡ bytes_of r
-      → Some r ≡ held number old → new ≡ remove_entry (is_at (nat_cmp number)) old → IsStrictlySortedBy nat_cmp (keys_of new) → n ≡ bytes - size → IsParted evs number events fewer → IsParted vs number versions others
+  pub indexed_left : (new : List (ℕ × Run)) (number : ℕ) (r : Run) (n size v : ℕ) (evs : List ℕ) (fewer others : List (ℕ × ℕ)) → evs ≡ r.events → v ≡ r.version → size ≡ bytes_of r
+      → Some r ≡ held number old → new ≡ remove_entry (is_at (nat_cmp number)) old → IsStrictlySortedBy nat_cmp (keys_of new) → n ≡ bytes - size → IsParted evs number events fewer → IsLowered v versions others
       → (values_of new ≡ without run_number number (values_of old)) × IsIndexed new n fewer others
-  indexed_left new number r n size evs vs fewer others a b c h e s less j l =
+  indexed_left new number r n size v evs fewer others a b c h e s less j l =
       left_at new number r n fewer others h e s (less ∙ ap (λ m. bytes - m) c)
       (subst (λ xs. IsParted xs number events fewer) a j)
-      (subst (λ xs. IsParted xs number versions others) b l)
+      (subst (λ q. IsLowered q versions others) b l)
 
   pub indexed_bytes : (number : ℕ) (r : Run) → Some r ≡ held number old → bytes_of r ≤ bytes
   indexed_bytes number r h =
@@ -240,7 +242,7 @@ module _ (old : List (ℕ × Run)) (bytes : ℕ) (events versions : List (ℕ ×
           stored = at.1;
           summed = b ∙ ap bytes_of_results (sym at.0);
           named = subst (λ xs. IsTold run_number events_of xs events) (sym at.0) (told_changed run_number events_of f number same names (values_of old) events i.named);
-          of_version = subst (λ xs. IsTold run_number version_of xs versions) (sym at.0) (told_changed run_number version_of f number same (λ r. ap (λ v. v ∷ []) (version r)) (values_of old) versions i.of_version);
+          of_version = subst (λ xs. IsCounted version_of xs versions) (sym at.0) (counted_changed run_number version_of f number version (values_of old) versions i.of_version);
         },
       )
 
@@ -284,14 +286,6 @@ keeps_alike_in name text fitted (Some r) = keeps_alike name text fitted r.steps
 -- ---- tests of a list by its pairs
 
 module _ (old : List (ℕ × Run)) (bytes : ℕ) (events versions : List (ℕ × ℕ)) (i : IsIndexed old bytes events versions) where
-  some_version : (version : ℕ) (xs : List Run) → list_any (λ (r : Run). is_in version (version_of r)) xs ≡ list_any (has_version version) xs
-  some_version version [] = refl
-  some_version version (x ∷ xs) = by_test (version == x.version) ∙ ap (λ b. version == x.version || b) (some_version version xs)
-    where
-      by_test : (b : Bool) → ((b || false) || list_any (λ (r : Run). is_in version (version_of r)) xs) ≡ (b || list_any (λ (r : Run). is_in version (version_of r)) xs)
-      by_test true = refl
-      by_test false = refl
-
   any_by : (b t : Bool) → OnTrue b (t ≡ true) → OnFalse b (t ≡ false) → b ≡ t
   any_by true t h k = sym h
   any_by false t h k = sym k
@@ -310,12 +304,8 @@ module _ (old : List (ℕ × Run)) (bytes : ℕ) (events versions : List (ℕ ×
       (on_true b (list_any (names_event event) (values_of old)) event events h (λ n t. told_some run_number events_of event n (values_of old) events i.named t))
       (on_false b (list_any (names_event event) (values_of old)) event events k (λ f. told_none run_number events_of event (values_of old) events i.named f))
 
-  pub indexed_version : (version : ℕ) (b : Bool) → OnTrue b ((n : ℕ) × (mentions versions version n ≡ true)) → OnFalse b ((n : ℕ) → mentions versions version n ≡ false) → b ≡ list_any (has_version version) (values_of old)
-  indexed_version version b h k =
-      any_by b (list_any (λ (r : Run). is_in version (version_of r)) (values_of old))
-      (on_true b (list_any (λ (r : Run). is_in version (version_of r)) (values_of old)) version versions h (λ n t. told_some run_number version_of version n (values_of old) versions i.of_version t))
-      (on_false b (list_any (λ (r : Run). is_in version (version_of r)) (values_of old)) version versions k (λ f. told_none run_number version_of version (values_of old) versions i.of_version f))
-      ∙ some_version version (values_of old)
+  pub indexed_version : (version : ℕ) → nat_lt 0 (count_of version versions) ≡ list_any (has_version version) (values_of old)
+  indexed_version version = counted_any run_number version_of version (values_of old) versions i.of_version
 
   pub indexed_of_event : (event : ℕ) → IsStrictlySortedBy pair_cmp events → numbers_of event events ≡ map run_number (filter (names_event event) (values_of old))
   indexed_of_event event s = told_numbers run_number events_of event (values_of old) events i.named s i.stored.ordered

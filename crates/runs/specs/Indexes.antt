@@ -4,6 +4,7 @@ use Rattle.std.specs.BTreeMap.{is_at}
 use Rattle.std.specs.Map.{values_of, lookup}
 use Rattle.std.specs.Ordering.{nat_cmp}
 use Rattle.lists.proofs.Stored.{IsStored}
+use Rattle.runs.specs.Counts.{IsCounted}
 use Rattle.runs.specs.Mentions.{IsTold}
 use Rattle.runs.specs.Runs.{Run, bytes_of_results, events_of, run_number, version_of}
 
@@ -17,9 +18,9 @@ changed_at number f [] = []
 changed_at number f (e ∷ es) =
     if is_at (nat_cmp number) e.0 then (e.0, f e.1) ∷ es else e ∷ changed_at number f es
 
--- each run under its number, the bytes of all results, and who names an event or a function
+-- each run under its number, the bytes of all results, who names an event, and how many are of a version
 pub record IsIndexed (entries : List (ℕ × Run)) (bytes : ℕ) (events versions : List (ℕ × ℕ)) : Type 0 where
   pub stored : IsStored nat_cmp run_number entries
   pub summed : bytes ≡ bytes_of_results (values_of entries)
   pub named : IsTold run_number events_of (values_of entries) events
-  pub of_version : IsTold run_number version_of (values_of entries) versions
+  pub of_version : IsCounted version_of (values_of entries) versions

@@ -1,4 +1,6 @@
+pub mod Boxed
 pub mod Changes
+pub mod Counts
 pub mod Ended
 pub mod Indexes
 pub mod Mentions

@@ -48,8 +48,8 @@ run_number r = r.number
 abbrev pub events_of : Run → List ℕ
 events_of r = r.events
 
-abbrev pub version_of : Run → List ℕ
-version_of r = r.version ∷ []
+abbrev pub version_of : Run → ℕ
+version_of r = r.version
 
 -- when it may have been made, and how far it may go before others
 pub record IsBounded (moment : ℕ) (shift : ℤ) : Type 0 where

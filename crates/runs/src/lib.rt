@@ -3,11 +3,14 @@
 #![tactic(auto)]
 
 mod boxed;
+mod boxed_steps;
+mod counted;
 mod ended;
 mod list;
 mod map;
 mod mentions;
 mod naming;
+mod rare;
 mod results;
 mod row;
 mod run;

@@ -7,6 +7,7 @@ ghost use Rattle.runs.specs.Runs.{run_number, run_at, bytes_of_results, names_ev
 ghost use Rattle.runs.specs.Changes.{changed, want, called, record_in, with_plan, with_pending, naming_in, if_new, is_pending_in, keep_in, plan_in, pend_in};
 
 use crate::boxed::BoxedRun;
+use crate::counted::Counted;
 use crate::map::{call_at, find_at, keep_at, pend_at, plan_at, put_at, take_at, wake_at, want_at};
 use crate::mentions::Mentions;
 use crate::{Naming, Run};
@@ -16,7 +17,7 @@ use std::alloc::Global;
 use std::collections::{BTreeMap, btree_map};
 use std::marker::Model;
 
-/// Runs in order of number, found by number, by event and by version.
+/// Runs in order of number, found by number and by event, and counted by version.
 #[derive(Drop)]
 pub(crate) struct RunList {
     alloc: Global,
@@ -24,7 +25,7 @@ pub(crate) struct RunList {
     /// The bytes of the results of all.
     bytes: u64,
     events: Mentions,
-    versions: Mentions,
+    versions: Counted,
 }
 
 impl Model for RunList {
@@ -50,7 +51,7 @@ impl RunList {
             runs: BTreeMap::new(alloc),
             bytes: 0,
             events: Mentions::empty(alloc),
-            versions: Mentions::empty(alloc),
+            versions: Counted::empty(alloc),
         }
     }
 
@@ -70,7 +71,7 @@ impl RunList {
         let bytes = bytes.checked_add(run.bytes()).ok_or(Memory)?;
         let named = run.events();
         events.add_all(named, number)?;
-        versions.add(run.version(), number)?;
+        versions.add(run.version())?;
         put_at(&mut runs, alloc, number, run)?;
         Ok(RunList {
             alloc,
@@ -90,7 +91,7 @@ impl RunList {
         let run = take_at(&mut self.runs, number)?;
         self.bytes -= run.bytes();
         self.events.remove_all(run.events(), number);
-        self.versions.remove(run.version(), number);
+        self.versions.remove(run.version());
         Some(run)
     }
 

@@ -5,13 +5,14 @@ ghost use Rattle.runs.specs.Runs.{IsBounded, first_of, score_of, bytes_of_steps}
 ghost use Rattle.runs.specs.Changes.{IsNoted, want, called, result_for, with_result, with_plan, with_pending, is_new_result, keep_in, plan_in, pend_in};
 ghost use Rattle.runs.specs.Origin.{run_of};
 
+use crate::Naming;
+use crate::boxed_steps::BoxedSteps;
+use crate::rare::boxed;
 use crate::results::state_too_large;
-use crate::{Naming, steps};
 use kinds::{
     Cell, CellLimit, CellLimits, Numbers, Parent, Pending, StepEntry, StepHash, error_object,
 };
 use lists::{Bytes, Memory};
-use run_state::{Active, Fresh};
 use std::alloc::Global;
 use std::marker::Model;
 
@@ -48,19 +49,20 @@ pub struct Run {
     version: u64,
     events: Numbers,
     cells: CellLimits,
-    start: Option<Cell>,
+    start: Option<Box<Cell>>,
     shift: i64,
     wanted: bool,
     planned: bool,
     started: bool,
-    parent: Option<Parent>,
-    steps: Active,
+    parent: Option<Box<Parent>>,
+    steps: BoxedSteps,
     /// The bytes of its results.
     bytes: u64,
 }
 
 impl Model for Run {
     ghost use Rattle.std.specs.Prelude.{◌≡◌};
+    ghost use Rattle.runs.specs.Boxed.{unboxed};
     ghost use Rattle.runs.specs.Runs.{Run, IsBounded, bytes_of_steps};
 
     ghost Value = { Run };
@@ -71,12 +73,12 @@ impl Model for Run {
       version = r.version;
       events = r.events;
       cells = r.cells;
-      start = r.start;
+      start = unboxed r.start;
       shift = r.shift;
       wanted = r.wanted;
       planned = r.planned;
       started = r.started;
-      parent = r.parent;
+      parent = unboxed r.parent;
       steps = r.steps;
     } };
 
@@ -85,26 +87,38 @@ impl Model for Run {
 
 impl Run {
     /// A run that wants its first call.
-    pub fn new(alloc: Global, origin: Origin) -> Self
+    pub fn new(alloc: Global, origin: Origin) -> Result<Self, Memory>
         requires { IsBounded origin.moment origin.shift }
-        ensures { result ≡ run_of origin }
+        ensures { IfOk result (λ run. run ≡ run_of origin) }
     {
-        Run {
+        let Origin {
+            number,
+            moment,
+            version,
+            events,
+            cells,
+            start,
+            shift,
+            parent,
+        } = origin;
+        let start = boxed(alloc, start)?;
+        let parent = boxed(alloc, parent)?;
+        Ok(Run {
             alloc,
-            number: origin.number,
-            moment: origin.moment,
-            version: origin.version,
-            events: origin.events,
-            cells: origin.cells,
-            start: origin.start,
-            shift: origin.shift,
+            number,
+            moment,
+            version,
+            events,
+            cells,
+            start,
+            shift,
             wanted: true,
             planned: false,
             started: false,
-            parent: origin.parent,
-            steps: Fresh::empty(alloc).begin(),
+            parent,
+            steps: BoxedSteps::empty(),
             bytes: 0,
-        }
+        })
     }
 
     pub fn number(&self) -> u64
@@ -152,7 +166,10 @@ impl Run {
     pub fn start(&self) -> Option<&Cell>
         ensures { option_copied result ≡ self.now.start }
     {
-        self.start.as_ref()
+        match &self.start {
+            Some(cell) => Some(&**cell),
+            None => None,
+        }
     }
 
     /// In the order of scores runs of one moment go, and those of others: the lesser comes first. It is the
@@ -188,14 +205,17 @@ impl Run {
     pub fn parent(&self) -> Option<Parent>
         ensures { result ≡ self.now.parent }
     {
-        self.parent
+        match &self.parent {
+            Some(parent) => Some(**parent),
+            None => None,
+        }
     }
 
     /// The recorded steps in the order of recording, as a call sends them.
     pub fn steps(&self) -> &[StepEntry]
         ensures { result.now ≡ self.now.steps.recorded }
     {
-        self.steps.steps()
+        self.steps.recorded()
     }
 
     /// The result of a recorded step.
@@ -269,7 +289,7 @@ impl Run {
         ensures err { OnErr result (self.new ≡ self.old) }
     {
         let bytes = self.bytes.checked_add(text.len() as u64).ok_or(Memory)?;
-        let naming = steps::keep(&mut self.steps, self.alloc, hash, text)?;
+        let naming = self.steps.keep(self.alloc, hash, text)?;
         match naming {
             Naming::New => {
                 self.bytes = bytes;
@@ -288,7 +308,7 @@ impl Run {
         ensures err { OnErr result (self.new ≡ self.old) }
     {
         let bytes = self.bytes.checked_add(text.len() as u64).ok_or(Memory)?;
-        steps::wake(&mut self.steps, self.alloc, hash, text)?;
+        self.steps.wake(self.alloc, hash, text)?;
         self.bytes = bytes;
         self.wanted = true;
         Ok(())
@@ -300,7 +320,7 @@ impl Run {
             IsNoted (plan_in hash.now self.old) (with_plan hash.now self.old) self.old naming self.new) }
         ensures err { OnErr result (self.new ≡ self.old) }
     {
-        match steps::plan(&mut self.steps, self.alloc, hash)? {
+        match self.steps.plan(self.alloc, hash)? {
             Naming::New => {
                 self.planned = true;
                 Ok(Naming::New)
@@ -316,6 +336,6 @@ impl Run {
             IsNoted (pend_in hash.now kind self.old) (with_pending hash.now kind self.old) self.old naming self.new) }
         ensures err { OnErr result (self.new ≡ self.old) }
     {
-        steps::pend(&mut self.steps, self.alloc, hash, kind)
+        self.steps.pend(self.alloc, hash, kind)
     }
 }

@@ -60,7 +60,7 @@ fn made(alloc: Global, number: u64, events: u64) -> Result<Run, Memory>
             hash: name(1),
         }),
     };
-    Ok(Run::new(alloc, origin))
+    Run::new(alloc, origin)
 }
 
 /// The runs from 0 on, so many, each with two events from its number on.

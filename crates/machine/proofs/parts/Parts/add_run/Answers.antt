@@ -21,8 +21,8 @@ returns c =
     on-ok c.add-2.result _ _
     (λ added. held-add_run m (run_of c.args.origin) c.in_ok-item.item c.touch.new.self c.add.new.self
     c.add-2.new.self c.requires.next c.requires.fit
-    (c.in_ok-item.ensures ∙ ap (λ r. new_item r step_target (state_of m)) c.new-run.ensures)
+    (c.in_ok-item.ensures ∙ ap (λ r. new_item r step_target (state_of m)) c.in_ok-run.ensures)
     (subst (λ es. IsTouched c.args.origin.version es m.loose c.touch.new.self) c.as_slice.ensures
     c.in_ok-touch.ensures)
-    (c.in_ok-add.ensures.live ∙ ap (λ r. m.runs.live ++ r ∷ []) c.new-run.ensures) c.in_ok-add.ensures.closing added
+    (c.in_ok-add.ensures.live ∙ ap (λ r. m.runs.live ++ r ∷ []) c.in_ok-run.ensures) c.in_ok-add.ensures.closing added
     c.requires.held) c.add-2.ensures.ok

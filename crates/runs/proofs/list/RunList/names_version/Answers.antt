@@ -5,4 +5,7 @@ use Rattle.runs.proofs.Listed.{indexed_version}
 use Rattle.runs.proofs.list.RunList.names_version.Goals as goal
 
 pub returns : goal.returns
-returns c = indexed_version c.self.inside.runs.entries c.self.inside.bytes c.self.inside.events c.self.inside.versions c.self.invariant c.args.version c.any.result c.any.ensures.some c.any.ensures.none ∙ ap (list_any (has_version c.args.version)) c.self.view_is
+returns c =
+    c.any.ensures
+    ∙ indexed_version c.self.inside.runs.entries c.self.inside.bytes c.self.inside.events c.self.inside.versions c.self.invariant c.args.version
+    ∙ ap (list_any (has_version c.args.version)) c.self.view_is

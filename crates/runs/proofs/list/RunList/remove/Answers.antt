@@ -1,4 +1,4 @@
-use Rattle.std.proofs.Common.{◌-◌, [], ◌∷◌, ◌∙◌, ap, refl, sym, arith, subst}
+use Rattle.std.proofs.Common.{◌-◌, ◌∙◌, ap, refl, sym, arith, subst}
 use Rattle.lists.proofs.Stored.{numbered_left}
 use Rattle.lists.specs.Entries.{AreApart, without}
 use Rattle.runs.specs.Indexes.{IsIndexed}
@@ -27,8 +27,8 @@ overflow_sub-self c =
 
 pub invariant_of-self-2 : goal.invariant_of-self-2
 invariant_of-self-2 c =
-    (indexed_left c.self.inside.runs.entries c.self.inside.bytes c.self.inside.events c.self.inside.versions c.self.invariant c.take_at.new.runs.entries c.args.number _ (c.self.inside.bytes - c.bytes.result) c.bytes.result c.events.result.now (c.version.result ∷ []) c.remove_all.new.self c.remove.new.self
-    c.events.ensures (ap (λ v. v ∷ []) c.version.ensures) c.bytes.ensures c.in_ok-run.ensures.value c.take_at.ensures.entries c.take_at.ensures.ordered refl c.remove_all.ensures c.remove.ensures).1
+    (indexed_left c.self.inside.runs.entries c.self.inside.bytes c.self.inside.events c.self.inside.versions c.self.invariant c.take_at.new.runs.entries c.args.number _ (c.self.inside.bytes - c.bytes.result) c.bytes.result c.version.result c.events.result.now c.remove_all.new.self c.remove.new.self
+    c.events.ensures c.version.ensures c.bytes.ensures c.in_ok-run.ensures.value c.take_at.ensures.entries c.take_at.ensures.ordered refl c.remove_all.ensures c.remove.ensures).1
 
 pub returns-clause-value : goal.returns-clause-value
 returns-clause-value c = c.in_ok-run.ensures.value ∙ held_found c.self.inside.runs.entries c.self.inside.bytes c.self.inside.events c.self.inside.versions c.self.invariant c.args.number ∙ ap (run_at c.args.number) c.self.view_is
