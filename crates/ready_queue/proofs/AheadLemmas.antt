@@ -186,37 +186,30 @@ module _ (issues : List IssueEntry) (starts : List StartEntry) (t : ℕ) (items 
     pub further : IsFurther issues starts t items first best
     pub covers : (k : Group) → is_in k gs ≡ true → IsParked ready k → Covers issues starts best k ⊎ (is_in k left ≡ true)
 
-  pub looking_start : IsLooking gs first
-  looking_start = record { further = further_self issues starts t items first; covers = λ k h p. inr h }
+  pub looking_start : (left : List Group) → left ≡ gs → IsLooking left first
+  looking_start left is = record { further = further_self issues starts t items first; covers = λ k h p. inr (ap (is_in k) is ∙ h) }
 
   pub looking_stop : (m : ℕ) (left : List Group) (best : Option ℕ) → AllByRecursion (IsHeldTill starts m) gs → IsLooking left best → reached best m ≡ true → CoversAll issues starts ready (λ k. is_in k gs ≡ true) best
   looking_stop m left best held l r k h p = held_covers issues starts m best k (all_in (IsHeldTill starts m) k gs held h) r
 
-  pub looking_on : (i : ℕ) (g : Group) (best new : Option ℕ) → i < length gs → g ≡ get_or gs i g → IsLooking (drop i gs) best → IsFurther issues starts t items best new → (IsParked ready g → Covers issues starts new g)
-      → IsLooking (drop (i + 1) gs) new
-  looking_on i g best new within is l f c = record {
+  pub looking_on : (whole left : List Group) (g : Group) (best new : Option ℕ) → whole ≡ g ∷ left → IsLooking whole best → IsFurther issues starts t items best new → (IsParked ready g → Covers issues starts new g) → IsLooking left new
+  looking_on whole left g best new is l f c = record {
     further = further_then issues starts t items first best new l.further f;
     covers = λ k h p. by_case k p (l.covers k h p);
   }
     where
-      one : (n : ℕ) → suc n ≡ n + 1
-      one n = omega arith
-
-      step : (k : Group) → is_in k (drop i gs) ≡ (is_at (group_cmp k) g || is_in k (drop (i + 1) gs))
-      step k = ap (is_in k) (drop-cons gs i g within) ∙ ap (λ x. is_at (group_cmp k) x || is_in k (drop (suc i) gs)) (sym is) ∙ ap (λ n. is_at (group_cmp k) g || is_in k (drop n gs)) (one i)
-
-      by_test : (k : Group) → IsParked ready k → (b : Bool) → is_at (group_cmp k) g ≡ b → (b || is_in k (drop (i + 1) gs)) ≡ true → Covers issues starts new k ⊎ (is_in k (drop (i + 1) gs) ≡ true)
+      by_test : (k : Group) → IsParked ready k → (b : Bool) → is_at (group_cmp k) g ≡ b → (b || is_in k left) ≡ true → Covers issues starts new k ⊎ (is_in k left ≡ true)
       by_test k p true e x = inl (subst (Covers issues starts new) (sym (tied k g e)) (c (subst (IsParked ready) (tied k g e) p)))
       by_test k p false e x = inr x
 
-      by_case : (k : Group) → IsParked ready k → Covers issues starts best k ⊎ (is_in k (drop i gs) ≡ true) → Covers issues starts new k ⊎ (is_in k (drop (i + 1) gs) ≡ true)
+      by_case : (k : Group) → IsParked ready k → Covers issues starts best k ⊎ (is_in k whole ≡ true) → Covers issues starts new k ⊎ (is_in k left ≡ true)
       by_case k p (inl x) = inl (covers_kept issues starts best new k f.kept x)
-      by_case k p (inr h) = by_test k p (is_at (group_cmp k) g) refl (sym (step k) ∙ h)
+      by_case k p (inr h) = by_test k p (is_at (group_cmp k) g) refl (sym (ap (is_in k) is) ∙ h)
 
-  pub looking_done : (i : ℕ) (best : Option ℕ) → length gs ≤ i → IsLooking (drop i gs) best → CoversAll issues starts ready (λ k. is_in k gs ≡ true) best
-  looking_done i best past l k h p = elim (l.covers k h p) [
+  pub looking_done : (left : List Group) (best : Option ℕ) → left ≡ [] → IsLooking left best → CoversAll issues starts ready (λ k. is_in k gs ≡ true) best
+  looking_done left best is l k h p = elim (l.covers k h p) [
     | inl c ↦ c
-    | inr x ↦ absurd (let no : false ≡ true = sym (ap (is_in k) (drop_all i gs past)) ∙ x in cc)
+    | inr x ↦ absurd (let no : false ≡ true = sym (ap (is_in k) is) ∙ x in cc)
   ]
 
 -- ---- groups that are held till moments, these in order

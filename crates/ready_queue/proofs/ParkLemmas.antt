@@ -3,14 +3,13 @@ use Rattle.std.proofs.Common.{◌≡◌, ◌⊎◌, inl, inr, ℕ, suc, ◌+◌,
 use Rattle.std.specs.List.{list_any, AllByRecursion, find}
 use Rattle.std.specs.BTreeMap.{is_at}
 use Rattle.std.specs.Map.{lookup}
-use Rattle.std.specs.Ordering.{nat_cmp, is_eq, is_gt}
+use Rattle.std.specs.Ordering.{nat_cmp, is_eq, is_gt, match_ordering}
 use Rattle.std.specs.declared.cmp.Ordering.{Ordering}
 use Rattle.std.specs.declared.cmp.Ordering.TheVariants.{Less, Equal, Greater}
 use Rattle.std.proofs.Math.Seq.{drop-cons}
 use Rattle.std.proofs.lemmas.Bool.Decides.{nat_tests}
 use Rattle.std.proofs.lemmas.Cmp.{tied_itself}
 use Rattle.std.proofs.lemmas.List.{drop_all}
-use Rattle.std.proofs.lemmas.List.Folds.{list_any-append}
 use Rattle.kinds.proofs.CellLemmas.{cell_tied, cell_total}
 use Rattle.kinds.specs.Cells.{cell_cmp, is_cell, is_full, has_cell, are_free, may_start}
 use Rattle.kinds.specs.Queue.{group_cmp, admits}
@@ -19,7 +18,7 @@ use Rattle.kinds.specs.declared.cell.CellLimit.{CellLimit}
 use Rattle.kinds.specs.declared.cell.IssueEntry.{IssueEntry}
 use Rattle.kinds.specs.declared.cell.StartEntry.{StartEntry}
 use Rattle.ready_queue.specs.Held.{Group, Groups, IsParked, AreFewer, AreOneMore, AreClosed}
-use Rattle.ready_queue.specs.Parking.{Parking, at_cell, at_moment, is_in, IsFullFor, IsHeldTill, IsShut, ParksFewer, AreLookedAt, AreLookedAtBut, AreToCome, IsFirst, IsListedIn, HasPlace, HavePlaces, groups_in, Gains, Loses, AreAmong}
+use Rattle.ready_queue.specs.Parking.{Parking, at_cell, at_moment, is_in, IsFullFor, IsHeldTill, IsShut, ParksFewer, AreLookedAt, AreLookedAtBut, AreToCome, IsFirst, IsListedIn, HasPlace, HavePlaces, groups_in, with_group, Gains, Loses, AreAmong}
 use Rattle.ready_queue.proofs.ReadyLemmas.{tied, at_itself}
 
 apart : true ≡ false → ⊥
@@ -62,15 +61,36 @@ or_right : (a b : Bool) → b ≡ true → (a || b) ≡ true
 or_right true b h = refl
 or_right false b h = h
 
-in_more : (k l : Group) (gs : List Group) → is_in l gs ≡ true → is_in l (gs ++ k ∷ []) ≡ true
-in_more k l gs h = list_any-append (is_at (group_cmp l)) gs (k ∷ []) ∙ or_left (is_in l gs) (is_in l (k ∷ [])) h
+or_then : (a b c : Bool) → (b ≡ true → c ≡ true) → (a || b) ≡ true → (a || c) ≡ true
+or_then true b c f h = refl
+or_then false b c f h = f h
 
-in_last : (k : Group) (gs : List Group) → is_in k (gs ++ k ∷ []) ≡ true
-in_last k gs = list_any-append (is_at (group_cmp k)) gs (k ∷ []) ∙ or_right (is_in k gs) (is_in k (k ∷ [])) (or_left (is_at (group_cmp k) k) false (at_itself k))
+in_more : (k l : Group) (gs : List Group) → is_in l gs ≡ true → is_in l (with_group k gs) ≡ true
+in_more k l [] h = cc
+in_more k l (g ∷ gs) h = by_order (group_cmp k g) (in_more k l gs)
+  where
+    by_order : (o : Ordering) → (is_in l gs ≡ true → is_in l (with_group k gs) ≡ true) → is_in l (match_ordering o (k ∷ g ∷ gs) (g ∷ gs) (g ∷ with_group k gs)) ≡ true
+    by_order Less more = or_right (is_at (group_cmp l) k) (is_in l (g ∷ gs)) h
+    by_order Equal more = h
+    by_order Greater more = or_then (is_at (group_cmp l) g) (is_in l gs) (is_in l (with_group k gs)) more h
 
-all_more : (P : Group → Type 0) (k : Group) (gs : List Group) → AllByRecursion P gs → P k → AllByRecursion P (gs ++ k ∷ [])
+in_last : (k : Group) (gs : List Group) → is_in k (with_group k gs) ≡ true
+in_last k [] = or_left (is_at (group_cmp k) k) false (at_itself k)
+in_last k (g ∷ gs) = by_order (group_cmp k g) refl (in_last k gs)
+  where
+    by_order : (o : Ordering) → group_cmp k g ≡ o → is_in k (with_group k gs) ≡ true → is_in k (match_ordering o (k ∷ g ∷ gs) (g ∷ gs) (g ∷ with_group k gs)) ≡ true
+    by_order Less e more = or_left (is_at (group_cmp k) k) (is_in k (g ∷ gs)) (at_itself k)
+    by_order Equal e more = or_left (is_at (group_cmp k) g) (is_in k gs) (ap is_eq e)
+    by_order Greater e more = or_right (is_at (group_cmp k) g) (is_in k (with_group k gs)) more
+
+all_more : (P : Group → Type 0) (k : Group) (gs : List Group) → AllByRecursion P gs → P k → AllByRecursion P (with_group k gs)
 all_more P k [] all p = (p, tt)
-all_more P k (g ∷ gs) all p = (all.0, all_more P k gs all.1 p)
+all_more P k (g ∷ gs) all p = by_order (group_cmp k g) (all_more P k gs all.1 p)
+  where
+    by_order : (o : Ordering) → AllByRecursion P (with_group k gs) → AllByRecursion P (match_ordering o (k ∷ g ∷ gs) (g ∷ gs) (g ∷ with_group k gs))
+    by_order Less more = (p, all)
+    by_order Equal more = all
+    by_order Greater more = (all.0, more)
 
 all_in : (P : Group → Type 0) (k : Group) (gs : List Group) → AllByRecursion P gs → is_in k gs ≡ true → P k
 all_in P k [] all h = cc
@@ -85,30 +105,30 @@ all_in P k (g ∷ gs) all h = by_test (is_at (group_cmp k) g) refl h (all_in P k
 module _ {K : Type 0} (cmp : K → K → Ordering) (same : (a b : K) → is_at (cmp a) b ≡ true → a ≡ b) (itself : (a : K) → is_at (cmp a) a ≡ true) (key : K) (old new : List (K × List Group)) where
   pub gains_new : (k : Group) (gs : List Group) → lookup (is_at (cmp key)) old ≡ None → gs ≡ k ∷ [] → ((q : K) → lookup (is_at (cmp q)) new ≡ cond (is_at (cmp key) q) (Some gs) (lookup (is_at (cmp q)) old)) → Gains cmp key k old new
   unfolding Gains
-  gains_new k gs none is u q = u q ∙ ap (λ w. cond (is_at (cmp key) q) (Some w) (lookup (is_at (cmp q)) old)) (is ∙ sym (ap (λ o. groups_in o ++ k ∷ []) none))
+  gains_new k gs none is u q = u q ∙ ap (λ w. cond (is_at (cmp key) q) (Some w) (lookup (is_at (cmp q)) old)) (is ∙ sym (ap (λ o. with_group k (groups_in o)) none))
 
   module _ (k : Group) (gains : Gains cmp key k old new) where
-    there : (q : K) → is_at (cmp key) q ≡ true → lookup (is_at (cmp q)) new ≡ Some (groups_in (lookup (is_at (cmp q)) old) ++ k ∷ [])
+    there : (q : K) → is_at (cmp key) q ≡ true → lookup (is_at (cmp q)) new ≡ Some (with_group k (groups_in (lookup (is_at (cmp q)) old)))
     unfolding Gains
     there q t =
-        gains q ∙ ap (λ b. cond b (Some (groups_in (lookup (is_at (cmp key)) old) ++ k ∷ [])) (lookup (is_at (cmp q)) old)) t
-        ∙ ap (λ x. Some (groups_in (lookup (is_at (cmp x)) old) ++ k ∷ [])) (same key q t)
+        gains q ∙ ap (λ b. cond b (Some (with_group k (groups_in (lookup (is_at (cmp key)) old)))) (lookup (is_at (cmp q)) old)) t
+        ∙ ap (λ x. Some (with_group k (groups_in (lookup (is_at (cmp x)) old)))) (same key q t)
 
     else_where : (q : K) → is_at (cmp key) q ≡ false → lookup (is_at (cmp q)) new ≡ lookup (is_at (cmp q)) old
     unfolding Gains
-    else_where q t = gains q ∙ ap (λ b. cond b (Some (groups_in (lookup (is_at (cmp key)) old) ++ k ∷ [])) (lookup (is_at (cmp q)) old)) t
+    else_where q t = gains q ∙ ap (λ b. cond b (Some (with_group k (groups_in (lookup (is_at (cmp key)) old)))) (lookup (is_at (cmp q)) old)) t
 
     pub listed_more : (l : Group) → IsListedIn cmp old l → IsListedIn cmp new l
     listed_more l p = by_side (is_at (cmp key) p.place)
-        (λ t. record { place = p.place; groups = p.groups ++ k ∷ []; found = there p.place t ∙ ap (λ o. Some (groups_in o ++ k ∷ [])) p.found; among = in_more k l p.groups p.among })
+        (λ t. record { place = p.place; groups = with_group k p.groups; found = there p.place t ∙ ap (λ o. Some (with_group k (groups_in o))) p.found; among = in_more k l p.groups p.among })
         (λ t. record { place = p.place; groups = p.groups; found = else_where p.place t ∙ p.found; among = p.among })
 
     pub listed_new : IsListedIn cmp new k
-    listed_new = record { place = key; groups = groups_in (lookup (is_at (cmp key)) old) ++ k ∷ []; found = there key (itself key); among = in_last k (groups_in (lookup (is_at (cmp key)) old)) }
+    listed_new = record { place = key; groups = with_group k (groups_in (lookup (is_at (cmp key)) old)); found = there key (itself key); among = in_last k (groups_in (lookup (is_at (cmp key)) old)) }
 
     pub all_gained : (P : K → Group → Type 0) → P key k → ((q : K) (gs : List Group) → lookup (is_at (cmp q)) old ≡ Some gs → AllByRecursion (P q) gs) → (q : K) (gs : List Group) → lookup (is_at (cmp q)) new ≡ Some gs → AllByRecursion (P q) gs
     all_gained P p all q gs e = by_side (is_at (cmp key) q)
-        (λ t. subst (AllByRecursion (P q)) (some_same (groups_in (lookup (is_at (cmp q)) old) ++ k ∷ []) gs (sym (there q t) ∙ e)) (all_more (P q) k (groups_in (lookup (is_at (cmp q)) old)) (before q (lookup (is_at (cmp q)) old) refl) (subst (λ x. P x k) (same key q t) p)))
+        (λ t. subst (AllByRecursion (P q)) (some_same (with_group k (groups_in (lookup (is_at (cmp q)) old))) gs (sym (there q t) ∙ e)) (all_more (P q) k (groups_in (lookup (is_at (cmp q)) old)) (before q (lookup (is_at (cmp q)) old) refl) (subst (λ x. P x k) (same key q t) p)))
         (λ t. all q gs (sym (else_where q t) ∙ e))
       where
         before : (q : K) (o : Option (List Group)) → lookup (is_at (cmp q)) old ≡ o → AllByRecursion (P q) (groups_in o)
@@ -146,24 +166,18 @@ loses_none {K = K} cmp same key map none q = by_test (is_at (cmp key) q) refl
 
 -- ---- groups are looked at again, one by one
 
-pub among_all : (ready : Groups) (gs : List Group) → AreAmong ready gs gs
-among_all ready gs k h p = h
+pub among_all : (ready : Groups) (gs left : List Group) → left ≡ gs → AreAmong ready gs left
+among_all ready gs left is k h p = ap (is_in k) is ∙ h
 
-pub among_next : (old new : Groups) (gs : List Group) (i : ℕ) (g : Group) → i < length gs → g ≡ get_or gs i g → AreFewer old new → (IsParked new g → ⊥) → AreAmong old gs (drop i gs) → AreAmong new gs (drop (i + 1) gs)
-among_next old new gs i g within is fewer woken among k h p = by_test (is_at (group_cmp k) g) refl (sym step ∙ among k h (fewer k p))
+pub among_next : (old new : Groups) (gs whole left : List Group) (g : Group) → whole ≡ g ∷ left → AreFewer old new → (IsParked new g → ⊥) → AreAmong old gs whole → AreAmong new gs left
+among_next old new gs whole left g is fewer woken among k h p = by_test (is_at (group_cmp k) g) refl (sym (ap (is_in k) is) ∙ among k h (fewer k p))
   where
-    one : (n : ℕ) → suc n ≡ n + 1
-    one n = omega arith
-
-    step : is_in k (drop i gs) ≡ (is_at (group_cmp k) g || is_in k (drop (i + 1) gs))
-    step = ap (is_in k) (drop-cons gs i g within) ∙ ap (λ x. is_at (group_cmp k) x || is_in k (drop (suc i) gs)) (sym is) ∙ ap (λ n. is_at (group_cmp k) g || is_in k (drop n gs)) (one i)
-
-    by_test : (b : Bool) → is_at (group_cmp k) g ≡ b → (b || is_in k (drop (i + 1) gs)) ≡ true → is_in k (drop (i + 1) gs) ≡ true
+    by_test : (b : Bool) → is_at (group_cmp k) g ≡ b → (b || is_in k left) ≡ true → is_in k left ≡ true
     by_test true e x = absurd (woken (subst (IsParked new) (tied k g e) p))
     by_test false e x = x
 
-pub among_none : (ready : Groups) (gs : List Group) (i : ℕ) → length gs ≤ i → AreAmong ready gs (drop i gs) → AreAmong ready gs []
-among_none ready gs i past among k h p = sym (ap (is_in k) (drop_all i gs past)) ∙ among k h p
+pub among_none : (ready : Groups) (gs left : List Group) → left ≡ [] → AreAmong ready gs left → AreAmong ready gs []
+among_none ready gs left is among k h p = sym (ap (is_in k) is) ∙ among k h p
 
 -- ---- each group that is parked has a place
 

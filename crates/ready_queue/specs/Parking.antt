@@ -2,6 +2,7 @@
 use Rattle.std.specs.Prelude.{◌≡◌, ◌⊎◌, ◌<◌, ◌≤◌, ◌++◌, ℕ, cond, Bool, true, false, ◌&&◌, List, [], ◌∷◌, Option, Some, None}
 use Rattle.std.specs.List.{list_any, AllByRecursion}
 use Rattle.std.specs.BTreeMap.{is_at}
+use Rattle.std.specs.BTreeSet.{insert_key}
 use Rattle.std.specs.Map.{lookup}
 use Rattle.std.specs.Ordering.{nat_cmp}
 use Rattle.std.specs.declared.cmp.Ordering.{Ordering}
@@ -83,11 +84,15 @@ abbrev pub groups_in : Option (List Group) → List Group
 groups_in None = []
 groups_in (Some gs) = gs
 
+-- the group is among these, each once
+abbrev pub with_group : Group → List Group → List Group
+with_group k gs = insert_key group_cmp gs k
+
 -- a group came to those of a key
 unfoldable pub Gains : {K : Type 0} → (K → K → Ordering) → K → Group → List (K × List Group) → List (K × List Group) → Type 0
 Gains {K = K} cmp key k old new =
     (q : K) → lookup (is_at (cmp q)) new
-    ≡ cond (is_at (cmp key) q) (Some (groups_in (lookup (is_at (cmp key)) old) ++ k ∷ [])) (lookup (is_at (cmp q)) old)
+    ≡ cond (is_at (cmp key) q) (Some (with_group k (groups_in (lookup (is_at (cmp key)) old)))) (lookup (is_at (cmp q)) old)
 
 -- the groups of a key went
 unfoldable pub Loses : {K : Type 0} → (K → K → Ordering) → K → List (K × List Group) → List (K × List Group) → Type 0

@@ -7,10 +7,10 @@ ghost use Rattle.ready_queue.specs.Parking.{is_in, IsHeldTill, IsListedIn};
 
 use crate::item::Group;
 use crate::listed::Listed;
+use crate::lot::Lot;
 use crate::moment::{moment_of, sooner};
 use concurrency_keys::ConcurrencyKeys;
-use lists::Items;
-use std::collections::BTreeMap;
+use std::collections::{BTreeMap, BTreeSet};
 use throttle::Starts;
 
 /// What was found doesn't come after the moment.
@@ -46,7 +46,7 @@ fn look(
 /// The same of groups that are held till a moment, up to the first at which this was reached.
 fn look_all(
     listed: &Listed,
-    groups: &[Group],
+    groups: &BTreeSet<Group>,
     moment: u64,
     t: u64,
     cells: &ConcurrencyKeys,
@@ -54,13 +54,13 @@ fn look_all(
     best: Option<u64>,
 ) -> Option<u64>
     requires due { AreDue listed.now.items listed.now.ready t }
-    requires held { AllByRecursion (IsHeldTill throttle.now moment) groups.now }
+    requires held { AllByRecursion (IsHeldTill throttle.now moment) groups.now.keys }
     ensures further { IsFurther cells.now throttle.now t listed.now.items best result }
     ensures covers { CoversAll cells.now throttle.now listed.now.ready
-        (λ k. is_in k groups.now ≡ true) result }
+        (λ k. is_in k groups.now.keys ≡ true) result }
 {
     let mut found = best;
-    for group in groups {
+    for group in groups.iter() {
         if reached(found, moment) {
             return found;
         }
@@ -72,7 +72,7 @@ fn look_all(
 /// The same of all groups that are held till moments, up to the first moment at which this was reached.
 pub(crate) fn least_parked(
     listed: &Listed,
-    later: &BTreeMap<u64, Items<Group>>,
+    later: &BTreeMap<u64, Lot>,
     t: u64,
     cells: &ConcurrencyKeys,
     throttle: &Starts,
@@ -89,7 +89,7 @@ pub(crate) fn least_parked(
         if reached(best, *moment) {
             return best;
         }
-        best = look_all(listed, groups.as_slice(), *moment, t, cells, throttle, best);
+        best = look_all(listed, groups.set(), *moment, t, cells, throttle, best);
     }
     best
 }

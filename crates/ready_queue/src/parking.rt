@@ -12,11 +12,11 @@ ghost use Rattle.ready_queue.specs.Parking.{at_moment, IsFirst};
 use crate::ahead::least_parked;
 use crate::item::{Group, copy_of, group_of};
 use crate::listed::Listed;
-use crate::lot::{put_at, put_till, unpark_all};
+use crate::lot::{Lot, put_at, put_till, unpark_all};
 use crate::{Admission, Entries};
 use concurrency_keys::ConcurrencyKeys;
 use kinds::{Cell, CellLimit, CellLimits, Item, Steps};
-use lists::{Items, Memory};
+use lists::Memory;
 use std::alloc::Global;
 use std::collections::BTreeMap;
 use std::marker::Model;
@@ -30,8 +30,8 @@ use throttle::Starts;
 #[derive(Drop)]
 pub struct ParkingQueue {
     listed: Listed,
-    full: BTreeMap<Cell, Items<Group>>,
-    later: BTreeMap<u64, Items<Group>>,
+    full: BTreeMap<Cell, Lot>,
+    later: BTreeMap<u64, Lot>,
     alloc: Global,
 }
 
@@ -123,7 +123,7 @@ impl ParkingQueue {
         let Some(groups) = self.full.get(cell) else {
             return Ok(());
         };
-        unpark_all(&mut self.listed, groups.as_slice())?;
+        unpark_all(&mut self.listed, groups.set())?;
         self.full.remove(cell);
         Ok(())
     }
@@ -172,7 +172,7 @@ impl ParkingQueue {
         let Some(groups) = self.later.get(&moment) else {
             return Ok(());
         };
-        unpark_all(&mut self.listed, groups.as_slice())?;
+        unpark_all(&mut self.listed, groups.set())?;
         self.later.remove(&moment);
         Ok(())
     }

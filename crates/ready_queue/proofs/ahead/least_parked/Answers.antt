@@ -24,7 +24,7 @@ returns-then-reached-clause-covers c =
 
 pub look_all-best-requires-clause-held : goal.look_all-best-requires-clause-held
 look_all-best-requires-clause-held c =
-    subst (AllByRecursion (IsHeldTill c.args.throttle.now c.in-Some.moment.now)) (sym c.as_slice.ensures)
+    subst (AllByRecursion (IsHeldTill c.args.throttle.now c.in-Some.moment.now)) (sym c.set.ensures)
     (onward_held c.args.cells.now c.args.throttle.now c.args.t c.args.listed.now.items c.args.listed.now.ready c.args.first c.args.later.now.entries c.loop-moment.moment-iterator
     (c.in-Some.moment.now, c.in-Some.groups.now) _ c.loop-moment.best c.loop-moment.invariant.2 c.in-Some.ensures.steps)
 
@@ -34,7 +34,7 @@ loop-moment-preserved c = (
   tt,
   onward_on c.args.cells.now c.args.throttle.now c.args.t c.args.listed.now.items c.args.listed.now.ready c.args.first c.args.later.now.entries c.loop-moment.moment-iterator
       (c.in-Some.moment.now, c.in-Some.groups.now) _ c.loop-moment.best _ c.loop-moment.invariant.2 c.in-Some.ensures.steps c.look_all-best.ensures.further
-      (subst (λ (gs : List Group). CoversAll c.args.cells.now c.args.throttle.now c.args.listed.now.ready (λ k. is_in k gs ≡ true) c.look_all-best.result) c.as_slice.ensures c.look_all-best.ensures.covers),
+      (subst (λ (gs : List Group). CoversAll c.args.cells.now c.args.throttle.now c.args.listed.now.ready (λ k. is_in k gs ≡ true) c.look_all-best.result) c.set.ensures c.look_all-best.ensures.covers),
 )
 
 pub returns-clause-further : goal.returns-clause-further

@@ -1,6 +1,8 @@
-use Rattle.std.proofs.Common.{drop}
 use Rattle.ready_queue.proofs.AheadLemmas.{IsLooking}
 use Rattle.ready_queue.proofs.ahead.look_all.Given as goal
 
 abbrev pub invariant-loop-group : goal.invariant-loop-group
-invariant-loop-group l = IsLooking l.cells l.throttle l.t l.listed.items l.listed.ready l.fn.best l.groups (drop l.group-index l.groups) l.found
+invariant-loop-group l =
+    goal.iterator-loop-group.can_next l.group-iterator ×
+    goal.iterator-loop-group.is_finite l.group-iterator ×
+    IsLooking l.cells l.throttle l.t l.listed.items l.listed.ready l.fn.best l.groups.keys l.group-iterator l.found

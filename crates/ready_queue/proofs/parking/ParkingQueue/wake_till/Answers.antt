@@ -18,7 +18,7 @@ pub invariant_of-self-2 : goal.invariant_of-self-2
 unfolding Loses
 invariant_of-self-2 c =
     places_woken_till c.args.moment c.in-Some.groups.now _ _ _ _ _ c.self.invariant c.unpark_all.ensures.fewer (sym c.in-Some.ensures.value)
-    (subst (λ (gs : List Group). AreAmong c.unpark_all.new.listed.ready gs []) c.as_slice.ensures c.in_ok-unpark_all.ensures.ok) c.remove.ensures.updates.0
+    (subst (λ (gs : List Group). AreAmong c.unpark_all.new.listed.ready gs []) c.set.ensures c.in_ok-unpark_all.ensures.ok) c.remove.ensures.updates.0
 
 pub returns-clause-ok : goal.returns-clause-ok
 returns-clause-ok c =
