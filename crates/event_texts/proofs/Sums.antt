@@ -1,14 +1,18 @@
--- The sum of the bytes of events that count.
-use Rattle.std.proofs.Common.{◌≡◌, SomeIff, ℕ, ◌<◌, ◌≤◌, ◌+◌, ◌-◌, ◌==◌, Bool, true, false, not, cond, List, [], ◌∷◌, ◌++◌, filter, find, length, None, Some, Option, refl, sym, ap, ◌∙◌, arith, subst, eqb-true}
-use Rattle.std.specs.BTreeMap.{is_at}
+-- The sum of the bytes of events that count, and the events under their numbers.
+use Rattle.std.proofs.Common.{◌≡◌, SomeIff, ℕ, ◌<◌, ◌≤◌, ◌+◌, ◌-◌, ◌==◌, nat_lt, Bool, true, false, not, cond, List, [], ◌∷◌, ◌++◌, map, filter, length, None, Some, Option, refl, sym, ap, ◌∙◌, arith, subst, eqb-true}
+use Rattle.std.specs.BTreeMap.{insert_entry, is_at}
 use Rattle.std.specs.List.{AllByRecursion}
+use Rattle.std.specs.List.Sorted.{IsStrictlySortedBy}
+use Rattle.std.specs.Map.{keys_of, values_of, remove_entry}
 use Rattle.std.specs.Ordering.{nat_cmp, is_lt}
+use Rattle.std.specs.declared.cmp.Ordering.TheVariants.{Less}
 use Rattle.std.proofs.lemmas.Bool.{cond-false}
 use Rattle.std.proofs.lemmas.Bool.Decides.{nat_tests}
-use Rattle.lists.specs.Entries.{has, without, pair_cmp, insert_in, AreApart}
+use Rattle.std.proofs.lemmas.Map.Keys.{sorted_head, sorted_tail}
+use Rattle.lists.specs.Entries.{without, insert_by, AreApart}
 use Rattle.lists.proofs.Keyed.{cond_none}
-use Rattle.ordered.proofs.Apart.{at_number}
-use Rattle.event_texts.specs.Texts.{IsSummed, bytes_of_texts, counts, event_number, has_number, text_at}
+use Rattle.lists.proofs.Stored.{InsertsByNumber, numbered_left, numbered_put}
+use Rattle.event_texts.specs.Texts.{IsHeld, IsSummed, bytes_of_texts, event_number, has_number, text_at}
 use Rattle.event_texts.specs.declared.texts.EventText.{EventText}
 
 -- the bytes of those whose numbers pass
@@ -37,7 +41,7 @@ flips n m h = grind (arith, nat_tests, h)
 
 -- ## What isn't there
 
-pub below-none : (n : ℕ) (es : List EventText) → AllByRecursion (λ (e : EventText). e.number < n) es
+below-none : (n : ℕ) (es : List EventText) → AllByRecursion (λ (e : EventText). e.number < n) es
     → text_at n es ≡ None
 below-none n [] h = refl
 below-none n (e ∷ es) h =
@@ -146,14 +150,14 @@ found-without k n (e ∷ es) other =
 
 -- ## One comes behind all
 
-last-place : (n m : ℕ) → m < n → is_lt (pair_cmp (0, n) (0, m)) ≡ false
+last-place : (n m : ℕ) → m < n → is_lt (nat_cmp n m) ≡ false
 last-place n m l = grind (arith, nat_tests, l)
 
-pub insert-last : (x : EventText) (es : List EventText) → AllByRecursion (λ (e : EventText). e.number < x.number) es
-    → insert_in (λ _. 0) event_number x es ≡ es ++ x ∷ []
+insert-last : (x : EventText) (es : List EventText) → AllByRecursion (λ (e : EventText). e.number < x.number) es
+    → insert_by event_number x es ≡ es ++ x ∷ []
 insert-last x [] h = refl
 insert-last x (e ∷ es) h =
-    cond-false (is_lt (pair_cmp (0, x.number) (0, e.number))) (x ∷ e ∷ es) (e ∷ insert_in (λ _. 0) event_number x es)
+    cond-false (is_lt (nat_cmp x.number e.number)) (x ∷ e ∷ es) (e ∷ insert_by event_number x es)
     (last-place x.number e.number h.0)
     ∙ ap (λ r. e ∷ r) (insert-last x es h.1)
 
@@ -171,7 +175,7 @@ none-front k x (e ∷ es) h =
 
 -- ## The sum is kept
 
-pub summed-last : (x : EventText) (es : List EventText) (counted : List ℕ) (bytes : ℕ)
+summed-last : (x : EventText) (es : List EventText) (counted : List ℕ) (bytes : ℕ)
     → AllByRecursion (λ (e : EventText). e.number < x.number) es → IsSummed es counted bytes
     → IsSummed (es ++ x ∷ []) counted bytes
 summed-last x es counted bytes below h = record {
@@ -179,7 +183,7 @@ summed-last x es counted bytes below h = record {
   sum = h.sum ∙ sym (total-last (has_number counted) x es (h.there x.number (below-none x.number es below)));
 }
 
-pub summed-without : (n : ℕ) (es : List EventText) (counted : List ℕ) (bytes : ℕ) → has_number counted n ≡ false
+summed-without : (n : ℕ) (es : List EventText) (counted : List ℕ) (bytes : ℕ) → has_number counted n ≡ false
     → IsSummed es counted bytes → IsSummed (without event_number n es) counted bytes
 summed-without n es counted bytes off h = record {
   there = λ k none. by_test k none (k == n) refl;
@@ -190,6 +194,9 @@ summed-without n es counted bytes off h = record {
         → has_number counted k ≡ false
     by_test k none true t = ap (has_number counted) (eqb-true k n t) ∙ off
     by_test k none false f = h.there k (sym (found-without k n es f) ∙ none)
+
+at_number : (a b : ℕ) → is_at (nat_cmp a) b ≡ (a == b)
+at_number a b = grind (arith, nat_tests)
 
 -- what an update of the numbers makes of another number
 other-one : (n k : ℕ) (b c : Bool) → (k == n) ≡ false → cond (is_at (nat_cmp n) k) b c ≡ c
@@ -259,3 +266,61 @@ sum-is (Some x) n m P h e = some-same e ∙ h.1
   where
     some-same : Some x ≡ Some n → n ≡ x
     some-same h = cc
+
+-- ## Events under their numbers
+
+above-differs : (n m : ℕ) → nat_cmp n m ≡ Less → (n == m) ≡ false
+above-differs n m l = grind (arith, nat_tests, l)
+
+above-none : (n : ℕ) (es : List EventText) → AllByRecursion (λ m. nat_cmp n m ≡ Less) (map event_number es)
+    → text_at n es ≡ None
+above-none n [] h = refl
+above-none n (e ∷ es) h =
+    cond-false (n == e.number) (Some e) (text_at n es) (above-differs n e.number h.0) ∙ above-none n es h.1
+
+pub sorted-apart : (es : List EventText) → IsStrictlySortedBy nat_cmp (map event_number es) → AreApart event_number es
+sorted-apart [] s = tt
+sorted-apart (e ∷ es) s = (
+  above-none e.number es (sorted_head nat_cmp e.number (map event_number es) s),
+  sorted-apart es (sorted_tail nat_cmp e.number (map event_number es) s),
+)
+
+lt-is : (n m : ℕ) → is_lt (nat_cmp n m) ≡ nat_lt n m
+lt-is n m = grind (arith, nat_tests)
+
+by-number : InsertsByNumber event_number (insert_by event_number)
+by-number = record {
+  empty = λ x. refl;
+  place = λ x e es. ap (λ b. cond b (x ∷ e ∷ es) (e ∷ insert_by event_number x es)) (lt-is x.number e.number);
+}
+
+-- one that is above all comes
+pub held-last : (x : EventText) (old new : List (ℕ × EventText)) (counted : List ℕ) (bytes : ℕ)
+    → AllByRecursion (λ (e : EventText). e.number < x.number) (values_of old) → IsHeld old counted bytes
+    → new ≡ insert_entry nat_cmp old x.number x → IsStrictlySortedBy nat_cmp (keys_of new)
+    → (values_of new ≡ values_of old ++ x ∷ []) × IsHeld new counted bytes
+held-last x old new counted bytes below h e s =
+    let put = numbered_put event_number by-number old new x h.stored (below-none x.number (values_of old) below) e s in
+    let now = put.0 ∙ insert-last x (values_of old) below in (
+      now,
+      record {
+        stored = put.1;
+        summed = subst (λ es. IsSummed es counted bytes) (sym now)
+            (summed-last x (values_of old) counted bytes below h.summed);
+      },
+    )
+
+-- one that doesn't count goes
+pub held-without : (n : ℕ) (old new : List (ℕ × EventText)) (counted : List ℕ) (bytes : ℕ)
+    → has_number counted n ≡ false → IsHeld old counted bytes → new ≡ remove_entry (is_at (nat_cmp n)) old
+    → IsStrictlySortedBy nat_cmp (keys_of new)
+    → (values_of new ≡ without event_number n (values_of old)) × IsHeld new counted bytes
+held-without n old new counted bytes off h e s =
+    let left = numbered_left event_number old new n h.stored e s in (
+      left.0,
+      record {
+        stored = left.1;
+        summed = subst (λ es. IsSummed es counted bytes) (sym left.0)
+            (summed-without n (values_of old) counted bytes off h.summed);
+      },
+    )

@@ -1,10 +1,13 @@
 -- Accepted events with their texts, and which of them count.
-use Rattle.std.specs.Prelude.{ℕ, ◌≡◌, ◌+◌, ◌==◌, Bool, true, false, ◌&&◌, not, List, [], ◌∷◌, length, filter, find, Option, Some, None}
+use Rattle.std.specs.Prelude.{ℕ, ◌≡◌, ◌+◌, ◌==◌, Bool, false, ◌&&◌, not, List, [], ◌∷◌}
+use Rattle.std.specs.Prelude.{length, filter, find, Option, Some, None}
 use Rattle.std.specs.BTreeMap.{is_at}
 use Rattle.std.specs.List.{list_any}
+use Rattle.std.specs.Map.{values_of}
 use Rattle.std.specs.Option.{is_some}
 use Rattle.std.specs.Ordering.{nat_cmp}
 use Rattle.lists.specs.Entries.{has}
+use Rattle.lists.proofs.Stored.{IsStored}
 use Rattle.event_texts.specs.declared.texts.EventText.{EventText}
 
 pub record Texts : Type 0 where
@@ -58,3 +61,8 @@ pub record IsGone (number : ℕ) (old new : Texts) : Type 0 where
 pub record IsSummed (texts : List EventText) (counted : List ℕ) (bytes : ℕ) : Type 0 where
   pub there : (n : ℕ) → text_at n texts ≡ None → has_number counted n ≡ false
   pub sum : bytes ≡ bytes_of_texts (filter (counts counted) texts)
+
+-- each event under its number, and the numbers and the sum as above
+pub record IsHeld (pairs : List (ℕ × EventText)) (counted : List ℕ) (bytes : ℕ) : Type 0 where
+  pub stored : IsStored nat_cmp event_number pairs
+  pub summed : IsSummed (values_of pairs) counted bytes
