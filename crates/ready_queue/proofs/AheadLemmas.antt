@@ -21,7 +21,7 @@ use Rattle.kinds.specs.declared.cell.CellLimit.{CellLimit}
 use Rattle.kinds.specs.declared.cell.IssueEntry.{IssueEntry}
 use Rattle.kinds.specs.declared.cell.StartEntry.{StartEntry}
 use Rattle.kinds.specs.declared.store.Item.{Item}
-use Rattle.ready_queue.specs.Ahead.{reached, IsMomentIn, IsFurther, Covers, CoversAll, AreHeld, AreDue, IsPlaced, IsDueOf, IsSettled, IsFirstDue, IsItemOf}
+use Rattle.ready_queue.specs.Ahead.{reached, IsMomentIn, IsFurther, Covers, CoversAll, CoversEach, AreHeld, AreDue, IsPlaced, IsDueOf, IsRipe, IsFirstDue, IsItemOf}
 use Rattle.ready_queue.specs.Held.{Group, Groups, holds, IsParked, IsNamed, name_at, has_at}
 use Rattle.ready_queue.specs.Parking.{Parking, at_moment, is_in, IsFullFor, IsHeldTill, IsShut, IsListedIn, HasPlace, HavePlaces}
 use Rattle.ready_queue.specs.Front.{IsFrontAt, IsFrontHeld, AllParked, IsFront}
@@ -40,7 +40,7 @@ some_same x y e = cc
 pub none_some : {A : Type 0} (x : A) → None ≡ Some x → ⊥
 none_some x e = cc
 
-apart : true ≡ false → ⊥
+pub apart : true ≡ false → ⊥
 apart e = cc
 
 -- ---- the sooner of two
@@ -177,6 +177,45 @@ all_in P k (g ∷ gs) all h = by_test (is_at (group_cmp k) g) refl h (all_in P k
     by_test : (b : Bool) → is_at (group_cmp k) g ≡ b → (b || is_in k gs) ≡ true → (is_in k gs ≡ true → P k) → P k
     by_test true e h more = subst P (sym (tied k g e)) all.0
     by_test false e h more = more h
+
+-- ---- all groups
+
+abbrev HasName : List (Group × ℕ) → Group → Type 0
+HasName names k = (g : ℕ) × (name_at k names ≡ Some g)
+
+module _ (issues : List IssueEntry) (starts : List StartEntry) (t : ℕ) (items : List Item) (ready : Groups) (first : Option ℕ) where
+  -- each group that holds anything was looked at, or is among the rest
+  pub record IsNaming (left : List (Group × ℕ)) (best : Option ℕ) : Type 0 where
+    pub further : IsFurther issues starts t items first best
+    pub covers : (k : Group) (s n : ℕ) → holds ready.held k s n ≡ true → Covers issues starts best k ⊎ HasName left k
+
+  pub naming_start : (left : List (Group × ℕ)) → left ≡ ready.held.names → IsNaming left first
+  unfolding holds
+  naming_start left is = record {
+    further = further_self issues starts t items first;
+    covers = λ k s n h. let f = found_name ready.held.names ready.held.keys k s n h in inr (f.0, ap (name_at k) is ∙ f.1);
+  }
+
+  pub naming_on : (whole left : List (Group × ℕ)) (e : Group × ℕ) (best new : Option ℕ) → whole ≡ e ∷ left → IsNaming whole best → IsFurther issues starts t items best new
+      → ((s n : ℕ) → holds ready.held e.0 s n ≡ true → Covers issues starts new e.0) → IsNaming left new
+  naming_on whole left e best new is l f c = record {
+    further = further_then issues starts t items first best new l.further f;
+    covers = λ k s n h. by_case k s n h (l.covers k s n h);
+  }
+    where
+      by_test : (k : Group) (s n g : ℕ) → holds ready.held k s n ≡ true → (b : Bool) → is_at (group_cmp k) e.0 ≡ b → cond b (Some e.1) (name_at k left) ≡ Some g → Covers issues starts new k ⊎ HasName left k
+      by_test k s n g h true same x = inl (subst (Covers issues starts new) (sym (tied k e.0 same)) (c s n (subst (λ l. holds ready.held l s n ≡ true) (tied k e.0 same) h)))
+      by_test k s n g h false same x = inr (g, x)
+
+      by_case : (k : Group) (s n : ℕ) → holds ready.held k s n ≡ true → Covers issues starts best k ⊎ HasName whole k → Covers issues starts new k ⊎ HasName left k
+      by_case k s n h (inl x) = inl (covers_kept issues starts best new k f.kept x)
+      by_case k s n h (inr x) = by_test k s n x.0 h (is_at (group_cmp k) e.0) refl (sym (ap (name_at k) is) ∙ x.1)
+
+  pub naming_done : (left : List (Group × ℕ)) (best : Option ℕ) → left ≡ [] → IsNaming left best → CoversEach issues starts ready best
+  naming_done left best is l k s n h = elim (l.covers k s n h) [
+    | inl c ↦ c
+    | inr x ↦ absurd (none_some x.0 (sym (ap (name_at k) is) ∙ x.1))
+  ]
 
 -- ---- groups that are held till one moment
 
@@ -355,27 +394,31 @@ module _ (issues : List IssueEntry) (starts : List StartEntry) (t : ℕ) where
   first_sound items None h = tt
   first_sound items (Some d) h = (h.0, h.1, h.2, moment_coming issues starts t h.1 (subst (λ x. t < x) (sym h.3) h.4) ∙ ap Some h.3)
 
-  pub next_parked : (items : List Item) (ready : Groups) (q : Parking) (first best : Option ℕ) → IsSettled items ready t first → HavePlaces ready q.full q.later → IsShut q issues starts t
-      → IsFurther issues starts t items first best → CoversAll issues starts ready (IsListedIn nat_cmp q.later) best → best ≡ next_item issues starts t items
-  next_parked items ready q first best s places shut f c =
+  pub next_ripe : (items : List Item) (ready : Groups) (first best : Option ℕ) → IsRipe items ready t first → IsFurther issues starts t items first best → CoversEach issues starts ready best → best ≡ next_item issues starts t items
+  next_ripe items ready first best s f c =
       same_both best (next_item issues starts t items)
       (next_reached best items (all-weaker (IsPlaced ready t first) (IsReached best) items each s.each))
       (upto best items (f.sound (first_sound items first s.coming)))
     where
-      by_place : (i : Item) (x : ℕ) → IsParked ready (group_of i) → HasPlace q.full q.later (group_of i) → release_of issues starts i.cells i.start ≡ Some x → reached best x ≡ true
-      by_place i x p (inl l) e = absurd (not_free i.cells i.start x (full_any issues l.place i.cells (all_in (IsFullFor issues l.place) (group_of i) l.groups (shut.full l.place l.groups l.found) l.among)) e)
-      by_place i x p (inr l) e = c (group_of i) l p x e
-
       each : (i : Item) → IsPlaced ready t first i → IsReached best i
-      each i (inl h) x e =
-          let p = s.parked (group_of i) (lifted i.score) i.number h.0 in
-          by_place i x p (places (group_of i) p) (sym (moment_due issues starts t i h.1) ∙ e)
+      each i (inl h) x e = c (group_of i) (lifted i.score) i.number h.0 x (sym (moment_due issues starts t i h.1) ∙ e)
       each i (inr h) x e = f.kept x (subst (λ y. reached first y ≡ true) (some_same i.due x (sym (moment_coming issues starts t i h.0) ∙ e)) h.1)
 
--- ---- the pool where it is settled
+  pub next_parked : (items : List Item) (ready : Groups) (q : Parking) (first best : Option ℕ) → IsRipe items ready t first → AllParked ready → HavePlaces ready q.full q.later → IsShut q issues starts t
+      → IsFurther issues starts t items first best → CoversAll issues starts ready (IsListedIn nat_cmp q.later) best → best ≡ next_item issues starts t items
+  next_parked items ready q first best s parked places shut f c = next_ripe items ready first best s f each
+    where
+      by_place : (k : Group) (x : ℕ) → IsParked ready k → HasPlace q.full q.later k → release_of issues starts k.0 k.1 ≡ Some x → reached best x ≡ true
+      by_place k x p (inl l) e = absurd (not_free k.0 k.1 x (full_any issues l.place k.0 (all_in (IsFullFor issues l.place) k l.groups (shut.full l.place l.groups l.found) l.among)) e)
+      by_place k x p (inr l) e = c k l p x e
+
+      each : CoversEach issues starts ready best
+      each k s n h x e = let p = parked k s n h in by_place k x p (places k p) e
+
+-- ---- the pool where it is ripe
 
 -- a group that holds anything is parked where no group has a place
-pub parked_all : (ready : Groups) → length ready.places ≤ 0 → (k : Group) (s n : ℕ) → holds ready.held k s n ≡ true → IsParked ready k
+pub parked_all : (ready : Groups) → length ready.places ≤ 0 → AllParked ready
 unfolding holds
 parked_all ready none k s n h =
     let f = found_name ready.held.names ready.held.keys k s n h in
@@ -388,11 +431,14 @@ parked_all ready none k s n h =
         over : (n : ℕ) → suc n ≤ 0 → ⊥
         over n h = omega arith
 
-pub settled : (pairs : List (ℕ × Item)) (items : List Item) (ready : Groups) (waiting : List (ℕ × ℕ)) (horizon clear t : ℕ) (first : Option ℕ) → IsStore pairs → values_of pairs ≡ items → IsPool items (holds ready.held) waiting horizon clear
-    → horizon ≡ t → clear ≡ t → length ready.places ≤ 0 → IsFirstDue waiting first → IsSettled items ready t first
-settled pairs items ready waiting horizon clear t first st e q a b none f = record {
+pub parked_where : {A : Type 0} (ready : Groups) (r : Option A) → AllParked ready → IfSome r (λ a. AllParked ready)
+parked_where ready None h = tt
+parked_where ready (Some a) h = h
+
+pub ripe : (pairs : List (ℕ × Item)) (items : List Item) (ready : Groups) (waiting : List (ℕ × ℕ)) (horizon clear t : ℕ) (first : Option ℕ) → IsStore pairs → values_of pairs ≡ items → IsPool items (holds ready.held) waiting horizon clear
+    → horizon ≡ t → clear ≡ t → IsFirstDue waiting first → IsRipe items ready t first
+ripe pairs items ready waiting horizon clear t first st e q a b f = record {
   due = λ k s n h. subst (λ x. IsReady items x k s n) a (q.ready k s n h);
-  parked = parked_all ready none;
   each = all-weaker (λ (i : Item). find (has_number i.number) items ≡ Some i) (IsPlaced ready t first) items placed
       (subst (λ (is : List Item). AllByRecursion (λ (i : Item). find (has_number i.number) is ≡ Some i) is) e (all_items (values_of pairs) st.stored.ordered));
   coming = coming_of first f;
@@ -444,9 +490,10 @@ unfolding holds
 head_none k g names keys None is h = λ s n. ap (λ o. has_at keys o s n) is ∙ h s n
 head_none k g names keys (Some n) is h = tt
 
-pub held_not_parked : (ready : Groups) (k : Group) → ((s n : ℕ) → holds ready.held k s n ≡ false) → IsParked ready k → ⊥
+-- a group that is parked holds something
+pub parked_holds : (ready : Groups) (k : Group) → IsParked ready k → (s : ℕ) × (n : ℕ) × (holds ready.held k s n ≡ true)
 unfolding holds
-held_not_parked ready k none p = apart (sym (ap (λ o. has_at ready.held.keys o p.parked.score p.parked.number) p.named ∙ p.parked.key) ∙ none p.parked.score p.parked.number)
+parked_holds ready k p = (p.parked.score, p.parked.number, ap (λ o. has_at ready.held.keys o p.parked.score p.parked.number) p.named ∙ p.parked.key)
 
 -- ---- the first group that isn't parked
 

@@ -74,9 +74,9 @@ in_more k l (g ∷ gs) h = by_order (group_cmp k g) (in_more k l gs)
     by_order Equal more = h
     by_order Greater more = or_then (is_at (group_cmp l) g) (is_in l gs) (is_in l (with_group k gs)) more h
 
-in_last : (k : Group) (gs : List Group) → is_in k (with_group k gs) ≡ true
-in_last k [] = or_left (is_at (group_cmp k) k) false (at_itself k)
-in_last k (g ∷ gs) = by_order (group_cmp k g) refl (in_last k gs)
+in_with : (k : Group) (gs : List Group) → is_in k (with_group k gs) ≡ true
+in_with k [] = or_left (is_at (group_cmp k) k) false (at_itself k)
+in_with k (g ∷ gs) = by_order (group_cmp k g) refl (in_with k gs)
   where
     by_order : (o : Ordering) → group_cmp k g ≡ o → is_in k (with_group k gs) ≡ true → is_in k (match_ordering o (k ∷ g ∷ gs) (g ∷ gs) (g ∷ with_group k gs)) ≡ true
     by_order Less e more = or_left (is_at (group_cmp k) k) (is_in k (g ∷ gs)) (at_itself k)
@@ -124,7 +124,7 @@ module _ {K : Type 0} (cmp : K → K → Ordering) (same : (a b : K) → is_at (
         (λ t. record { place = p.place; groups = p.groups; found = else_where p.place t ∙ p.found; among = p.among })
 
     pub listed_new : IsListedIn cmp new k
-    listed_new = record { place = key; groups = with_group k (groups_in (lookup (is_at (cmp key)) old)); found = there key (itself key); among = in_last k (groups_in (lookup (is_at (cmp key)) old)) }
+    listed_new = record { place = key; groups = with_group k (groups_in (lookup (is_at (cmp key)) old)); found = there key (itself key); among = in_with k (groups_in (lookup (is_at (cmp key)) old)) }
 
     pub all_gained : (P : K → Group → Type 0) → P key k → ((q : K) (gs : List Group) → lookup (is_at (cmp q)) old ≡ Some gs → AllByRecursion (P q) gs) → (q : K) (gs : List Group) → lookup (is_at (cmp q)) new ≡ Some gs → AllByRecursion (P q) gs
     all_gained P p all q gs e = by_side (is_at (cmp key) q)

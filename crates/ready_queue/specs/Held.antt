@@ -1,5 +1,6 @@
 -- Which items are ready: those of a group, a score counted from the least that there is, and a number.
-use Rattle.std.specs.Prelude.{◌≡◌, ◌⊎◌, ◌+◌, ◌<◌, ◌≤◌, length, ℕ, Bool, true, false, List, Option, Some, None}
+use Rattle.std.specs.Prelude.{◌≡◌, ◌⊎◌, ◌+◌, ◌<◌, ◌≤◌, length, ℕ, Bool, true, false}
+use Rattle.std.specs.Prelude.{List, Option, Some, None}
 use Rattle.std.specs.List.{list_any}
 use Rattle.std.specs.BTreeMap.{is_at}
 use Rattle.std.specs.Map.{lookup}
@@ -39,7 +40,8 @@ has_at keys (Some g) s n = has keys g s n
 unfoldable pub holds : Ready → Held
 holds ready group s n = has_at ready.keys (name_at group ready.names) s n
 
--- no two groups have one number, none has a number that is still to be given, and each key is of a group that has one
+-- no two groups have one number, none has a number that is still to be given, and each key is of a group
+-- that has one
 pub record IsNamed (names : List (Group × ℕ)) (keys : List (ℕ × ℕ × ℕ)) (next : ℕ) : Type 0 where
   pub below : (k : Group) (g : ℕ) → name_at k names ≡ Some g → g < next
   pub single : (k l : Group) (g : ℕ) → name_at k names ≡ Some g → name_at l names ≡ Some g → k ≡ l
@@ -51,18 +53,21 @@ abbrev pub AreSame : Held → Held → Type 0
 AreSame old new = (k : Group) (s n : ℕ) → new k s n ≡ old k s n
 
 pub record Comes (k : Group) (s n : ℕ) (old new : Held) : Type 0 where
-  pub added : (l : Group) (u m : ℕ) → new l u m ≡ true → ((l ≡ k) × (u ≡ s) × (m ≡ n)) ⊎ (old l u m ≡ true)
+  pub added : (l : Group) (u m : ℕ) → new l u m ≡ true
+      → ((l ≡ k) × (u ≡ s) × (m ≡ n)) ⊎ (old l u m ≡ true)
   pub here : new k s n ≡ true
   pub kept : (l : Group) (u m : ℕ) → old l u m ≡ true → new l u m ≡ true
 
 pub record Goes (k : Group) (s n : ℕ) (old new : Held) : Type 0 where
   pub had : (l : Group) (u m : ℕ) → new l u m ≡ true → old l u m ≡ true
-  pub split : (l : Group) (u m : ℕ) → old l u m ≡ true → ((l ≡ k) × (u ≡ s) × (m ≡ n)) ⊎ (new l u m ≡ true)
+  pub split : (l : Group) (u m : ℕ) → old l u m ≡ true
+      → ((l ≡ k) × (u ≡ s) × (m ≡ n)) ⊎ (new l u m ≡ true)
   pub gone : new k s n ≡ true → ⊥
 
 -- a key came of the group that has this number
 abbrev pub ComesNamed : ℕ → ℕ → ℕ → Ready → Ready → Type 0
-ComesNamed g s n old new = (k : Group) → name_at k old.names ≡ Some g → Comes k s n (holds old) (holds new)
+ComesNamed g s n old new =
+    (k : Group) → name_at k old.names ≡ Some g → Comes k s n (holds old) (holds new)
 
 -- ---- groups that are parked: they have keys, and no place
 
@@ -70,6 +75,10 @@ pub record IsParked (gs : Groups) (k : Group) : Type 0 where
   pub name : ℕ
   pub named : name_at k gs.held.names ≡ Some name
   pub parked : IsParkedAt name (record { keys = gs.held.keys; places = gs.places })
+
+-- a group that has no items
+abbrev pub HoldsNothing : Groups → Group → Type 0
+HoldsNothing gs k = (s n : ℕ) → holds gs.held k s n ≡ false
 
 -- no group is parked that wasn't
 abbrev pub AreFewer : Groups → Groups → Type 0

@@ -20,4 +20,5 @@ unfoldable pub opens : Gates → List (ℕ × Item) → ℕ → Bool
 opens gate pairs n = opens_for gate (lookup (is_at (nat_cmp n)) pairs)
 
 abbrev pub HaveStarts : List (ℕ × Item) → Type 0
-HaveStarts pairs = (n : ℕ) (item : Item) → lookup (is_at (nat_cmp n)) pairs ≡ Some item → IsStart item.start
+HaveStarts pairs =
+    (n : ℕ) (item : Item) → lookup (is_at (nat_cmp n)) pairs ≡ Some item → IsStart item.start

@@ -1,5 +1,7 @@
--- Items whose groups may be parked: at a cell that is full, or till a moment before which they aren't let start.
-use Rattle.std.specs.Prelude.{◌≡◌, ◌⊎◌, ◌<◌, ◌≤◌, ◌++◌, ℕ, cond, Bool, true, false, ◌&&◌, List, [], ◌∷◌, Option, Some, None}
+-- Items whose groups may be parked: at a cell that is full, or till a moment before which they aren't
+-- let start.
+use Rattle.std.specs.Prelude.{◌≡◌, ◌⊎◌, ◌<◌, ◌≤◌, ℕ, cond, Bool, true, false, ◌&&◌, List, [], ◌∷◌}
+use Rattle.std.specs.Prelude.{Option, Some, None}
 use Rattle.std.specs.List.{list_any, AllByRecursion}
 use Rattle.std.specs.BTreeMap.{is_at}
 use Rattle.std.specs.BTreeSet.{insert_key}
@@ -35,16 +37,21 @@ at_moment m later = lookup (is_at (nat_cmp m)) later
 
 -- the cell is one of the group's, and full
 abbrev pub IsFullFor : List IssueEntry → Cell → Group → Type 0
-IsFullFor issues cell k = list_any (λ (l : CellLimit). is_cell cell l.cell && is_full issues l) k.0 ≡ true
+IsFullFor issues cell k =
+    list_any (λ (l : CellLimit). is_cell cell l.cell && is_full issues l) k.0 ≡ true
 
 -- the group isn't let start before the moment
 abbrev pub IsHeldTill : List StartEntry → ℕ → Group → Type 0
 IsHeldTill starts m k = (t : ℕ) → t < m → may_start k.1 t starts ≡ false
 
--- each group that is parked at a cell has it full, and those that are parked till a moment have it to come
-pub record IsShut (q : Parking) (issues : List IssueEntry) (starts : List StartEntry) (t : ℕ) : Type 0 where
-  pub full : (c : Cell) (gs : List Group) → at_cell c q.full ≡ Some gs → AllByRecursion (IsFullFor issues c) gs
-  pub later : (m : ℕ) (gs : List Group) → at_moment m q.later ≡ Some gs → AllByRecursion (IsHeldTill starts m) gs
+-- each group that is parked at a cell has it full, and those that are parked till a moment have it to
+-- come
+pub record IsShut (q : Parking) (issues : List IssueEntry) (starts : List StartEntry)
+    (t : ℕ) : Type 0 where
+  pub full : (c : Cell) (gs : List Group) → at_cell c q.full ≡ Some gs
+      → AllByRecursion (IsFullFor issues c) gs
+  pub later : (m : ℕ) (gs : List Group) → at_moment m q.later ≡ Some gs
+      → AllByRecursion (IsHeldTill starts m) gs
   pub coming : (m : ℕ) (gs : List Group) → at_moment m q.later ≡ Some gs → t < m
 
 -- ---- what calls do to it
@@ -52,7 +59,8 @@ pub record IsShut (q : Parking) (issues : List IssueEntry) (starts : List StartE
 -- what is parked was parked
 pub record ParksFewer (old new : Parking) : Type 0 where
   pub full : (c : Cell) (gs : List Group) → at_cell c new.full ≡ Some gs → at_cell c old.full ≡ Some gs
-  pub later : (m : ℕ) (gs : List Group) → at_moment m new.later ≡ Some gs → at_moment m old.later ≡ Some gs
+  pub later : (m : ℕ) (gs : List Group) → at_moment m new.later ≡ Some gs
+      → at_moment m old.later ≡ Some gs
 
 -- no group is parked at one of the cells
 abbrev pub AreLookedAt : List CellLimit → Parking → Type 0
@@ -67,7 +75,8 @@ AreToCome t q = (m : ℕ) (gs : List Group) → at_moment m q.later ≡ Some gs 
 abbrev pub is_in : Group → List Group → Bool
 is_in k gs = list_any (is_at (group_cmp k)) gs
 
-pub record IsListedIn {K : Type 0} (cmp : K → K → Ordering) (map : List (K × List Group)) (k : Group) : Type 0 where
+pub record IsListedIn {K : Type 0} (cmp : K → K → Ordering) (map : List (K × List Group))
+    (k : Group) : Type 0 where
   pub place : K
   pub groups : List Group
   pub found : lookup (is_at (cmp place)) map ≡ Some groups
@@ -89,17 +98,22 @@ abbrev pub with_group : Group → List Group → List Group
 with_group k gs = insert_key group_cmp gs k
 
 -- a group came to those of a key
-unfoldable pub Gains : {K : Type 0} → (K → K → Ordering) → K → Group → List (K × List Group) → List (K × List Group) → Type 0
+unfoldable pub Gains : {K : Type 0} → (K → K → Ordering) → K → Group
+    → List (K × List Group) → List (K × List Group) → Type 0
 Gains {K = K} cmp key k old new =
     (q : K) → lookup (is_at (cmp q)) new
-    ≡ cond (is_at (cmp key) q) (Some (with_group k (groups_in (lookup (is_at (cmp key)) old)))) (lookup (is_at (cmp q)) old)
+    ≡ cond (is_at (cmp key) q) (Some (with_group k (groups_in (lookup (is_at (cmp key)) old))))
+    (lookup (is_at (cmp q)) old)
 
 -- the groups of a key went
-unfoldable pub Loses : {K : Type 0} → (K → K → Ordering) → K → List (K × List Group) → List (K × List Group) → Type 0
-Loses {K = K} cmp key old new = (q : K) → lookup (is_at (cmp q)) new ≡ cond (is_at (cmp key) q) None (lookup (is_at (cmp q)) old)
+unfoldable pub Loses : {K : Type 0} → (K → K → Ordering) → K
+    → List (K × List Group) → List (K × List Group) → Type 0
+Loses {K = K} cmp key old new =
+    (q : K) → lookup (is_at (cmp q)) new ≡ cond (is_at (cmp key) q) None (lookup (is_at (cmp q)) old)
 
 -- the same groups are under each key
-unfoldable pub IsLike : {K : Type 0} → (K → K → Ordering) → List (K × List Group) → List (K × List Group) → Type 0
+unfoldable pub IsLike : {K : Type 0} → (K → K → Ordering)
+    → List (K × List Group) → List (K × List Group) → Type 0
 IsLike {K = K} cmp old new = (q : K) → lookup (is_at (cmp q)) new ≡ lookup (is_at (cmp q)) old
 
 -- some groups are parked till this moment, and none till an earlier one
@@ -109,7 +123,9 @@ pub record IsFirst (f : ℕ) (later : List (ℕ × List Group)) : Type 0 where
 
 -- the cells of those limits at which groups are parked are among the rest
 abbrev pub AreLookedAtBut : List CellLimit → List CellLimit → Parking → Type 0
-AreLookedAtBut limits rest q = (c : Cell) (gs : List Group) → has_cell c limits ≡ true → at_cell c q.full ≡ Some gs → has_cell c rest ≡ true
+AreLookedAtBut limits rest q =
+    (c : Cell) (gs : List Group) → has_cell c limits ≡ true → at_cell c q.full ≡ Some gs
+    → has_cell c rest ≡ true
 
 -- those of the groups that are parked are among the rest
 abbrev pub AreAmong : Groups → List Group → List Group → Type 0

@@ -26,11 +26,14 @@ IsShown group place old new =
 unfoldable pub IsHidden : ℕ → Place → Option Place → List (ℕ × ℕ × ℕ) → List (ℕ × ℕ × ℕ) → Type 0
 IsHidden group was place old new =
     (s n g : ℕ)
-    → has new s n g ≡ (has old s n g && not (g == group && s == was.score && n == was.number && not (is_front s n place)))
+    → has new s n g
+    ≡ (has old s n g
+    && not (g == group && s == was.score && n == was.number && not (is_front s n place)))
 
 -- one group's place came, went or took the place of another
 unfoldable pub Puts : ℕ → Option Place → List (ℕ × Place) → List (ℕ × Place) → Type 0
-Puts group place old new = (q : ℕ) → place_at q new ≡ cond (is_at (nat_cmp group) q) place (place_at q old)
+Puts group place old new =
+    (q : ℕ) → place_at q new ≡ cond (is_at (nat_cmp group) q) place (place_at q old)
 
 -- ---- the places beside the keys
 
@@ -45,7 +48,8 @@ IsLedBy (Some place) x = at_most (place.score, place.number) x ≡ true
 abbrev pub HasKey : List (ℕ × ℕ × ℕ) → ℕ → Type 0
 HasKey keys g = (s : ℕ) × (n : ℕ) × (has keys g s n ≡ true)
 
--- the place of a group, where it has one, isn't after any of its keys; a group that has a place has a key
+-- the place of a group, where it has one, isn't after any of its keys; a group that has a place has a
+-- key
 pub record IsIndexed (keys : List (ℕ × ℕ × ℕ)) (places : List (ℕ × Place)) : Type 0 where
   pub led : (g s n : ℕ) → has keys g s n ≡ true → IsLedBy (place_at g places) (s, n)
   pub used : (g : ℕ) (place : Place) → place_at g places ≡ Some place → HasKey keys g
@@ -88,4 +92,5 @@ ParksOne group old new = (g : ℕ) → IsParkedAt g new → (g ≡ group) ⊎ Is
 
 -- the keys of parked groups are closed
 abbrev pub AreShut : (ℕ → Bool) → Indexed → Type 0
-AreShut open_at i = (g s n : ℕ) → has i.keys g s n ≡ true → place_at g i.places ≡ None → open_at n ≡ false
+AreShut open_at i =
+    (g s n : ℕ) → has i.keys g s n ≡ true → place_at g i.places ≡ None → open_at n ≡ false

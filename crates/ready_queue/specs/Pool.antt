@@ -35,11 +35,13 @@ pub record IsLate (items : List Item) (d n : ℕ) : Type 0 where
 abbrev pub is_held : Held → Item → ℕ → Bool
 is_held held item n = held (group_of item) (lifted item.score) n
 
--- What is ready is an item that is due by the horizon, what waits is an item that is due after the clear moment, and each
--- item is ready or waits.
-pub record IsPool (items : List Item) (held : Held) (waiting : List (ℕ × ℕ)) (horizon clear : ℕ) : Type 0 where
+-- What is ready is an item that is due by the horizon, what waits is an item that is due after the clear
+-- moment, and each item is ready or waits.
+pub record IsPool (items : List Item) (held : Held) (waiting : List (ℕ × ℕ))
+    (horizon clear : ℕ) : Type 0 where
   pub ready : (k : Group) (s n : ℕ) → held k s n ≡ true → IsReady items horizon k s n
-  pub kept : (n : ℕ) (item : Item) → find (has_number n) items ≡ Some item → (is_held held item n ≡ true) ⊎ (has_pair waiting item.due n ≡ true)
+  pub kept : (n : ℕ) (item : Item) → find (has_number n) items ≡ Some item
+      → (is_held held item n ≡ true) ⊎ (has_pair waiting item.due n ≡ true)
   pub waits : (d n : ℕ) → has_pair waiting d n ≡ true → IsLate items d n
   pub late : (d n : ℕ) → has_pair waiting d n ≡ true → clear < d
   pub near : clear ≤ horizon

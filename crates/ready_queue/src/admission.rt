@@ -8,8 +8,8 @@ use kinds::{Cell, CellLimits, Steps};
 use std::sync::ledger::Ledger;
 use throttle::Starts;
 
-/// The gate of a server: open where none of the cells is full, and the throttle, where there is one, lets a
-/// run start at the moment.
+/// The gate of a server: open where none of the cells is full, and the throttle, where there is one,
+/// lets a run start at the moment.
 #[derive(Drop)]
 pub struct Admission<'a> {
     pub cells: &'a ConcurrencyKeys,

@@ -1,8 +1,11 @@
-ghost use Rattle.std.specs.Prelude.{◌≡◌, true};
+ghost use Rattle.std.specs.Prelude.{◌≡◌, ◌≤◌, ℕ, true};
 ghost use Rattle.std.specs.List.{AllByRecursion};
 ghost use Rattle.std.specs.Ordering.{nat_cmp};
-ghost use Rattle.ready_queue.specs.Ahead.{reached, IsFurther, Covers, CoversAll, AreHeld, AreDue};
-ghost use Rattle.ready_queue.specs.Held.{Group, IsParked};
+ghost use Rattle.kinds.specs.Cells.{last_moment};
+ghost use Rattle.kinds.specs.Queue.{next_item};
+ghost use Rattle.ready_queue.specs.Ahead.{reached, IsFurther, Covers, CoversAll, CoversEach};
+ghost use Rattle.ready_queue.specs.Ahead.{AreHeld, AreDue};
+ghost use Rattle.ready_queue.specs.Held.{Group, holds};
 ghost use Rattle.ready_queue.specs.Parking.{is_in, IsHeldTill, IsListedIn};
 
 use crate::item::Group;
@@ -34,13 +37,49 @@ fn look(
 ) -> Option<u64>
     requires { AreDue listed.now.items listed.now.ready t }
     ensures further { IsFurther cells.now throttle.now t listed.now.items best result }
-    ensures covers { IsParked listed.now.ready group.now
+    ensures covers { (s n : ℕ) → holds listed.now.ready.held group.now s n ≡ true
         → Covers cells.now throttle.now result group.now }
 {
     let Some(item) = listed.first_of(group) else {
         return best;
     };
     sooner(best, moment_of(item, t, cells, throttle))
+}
+
+/// The same of all groups.
+fn least_of_all(
+    listed: &Listed,
+    t: u64,
+    cells: &ConcurrencyKeys,
+    throttle: &Starts,
+    first: Option<u64>,
+) -> Option<u64>
+    requires { AreDue listed.now.items listed.now.ready t }
+    ensures further { IsFurther cells.now throttle.now t listed.now.items first result }
+    ensures covers { CoversEach cells.now throttle.now listed.now.ready result }
+{
+    let mut best = first;
+    for (group, _) in listed.names().iter() {
+        best = look(listed, group, t, cells, throttle, best);
+    }
+    best
+}
+
+/// The least of the items' next moments. Looks at the first due to come and once at each group, where
+/// the groups have what is due at the moment and nothing else, and else at all items.
+pub(crate) fn next_of(
+    listed: &Listed,
+    t: u64,
+    cells: &ConcurrencyKeys,
+    throttle: &Starts,
+) -> Option<u64>
+    requires { t ≤ last_moment }
+    ensures { result ≡ next_item cells.now throttle.now t listed.now.items }
+{
+    match listed.ripe(t) {
+        Some(ahead) => least_of_all(listed, t, cells, throttle, ahead.due),
+        None => listed.next(t, cells, throttle),
+    }
 }
 
 /// The same of groups that are held till a moment, up to the first at which this was reached.

@@ -53,7 +53,8 @@ pub(crate) fn put_at(
     number: u64,
     item: Item,
 ) -> Result<(), Memory>
-    ensures entries { OnOk result (items.new.entries ≡ insert_entry nat_cmp items.old.entries number item) }
+    ensures entries { OnOk result
+        (items.new.entries ≡ insert_entry nat_cmp items.old.entries number item) }
     ensures ordered { OnOk result (IsOrdered nat_cmp items.new) }
     ensures err { OnErr result (items.new.entries ≡ items.old.entries) }
 {

@@ -7,7 +7,8 @@ ghost use Rattle.kinds.specs.declared.cell.CellLimit.{CellLimit};
 use kinds::{Cell, CellLimits, Steps};
 use std::sync::ledger::Ledger;
 
-/// Says of items whether they may be issued at a moment, by their cells and the start that they wait for.
+/// Says of items whether they may be issued at a moment, by their cells and the start that they wait
+/// for.
 pub trait Gate {
     ghost is_open: { Self → ℕ → List CellLimit → Option Cell → Bool };
 

@@ -1,4 +1,5 @@
-ghost use Rattle.std.specs.Prelude.{◌≡◌, ◌+◌, ◌≤◌, ℕ, List, ◌⊎◌, [], length, true, false, None, OnOk, OnErr, IfSome};
+ghost use Rattle.std.specs.Prelude.{◌≡◌, ◌+◌, ◌≤◌, ℕ, List, ◌⊎◌, [], length, true, false, None};
+ghost use Rattle.std.specs.Prelude.{OnOk, OnErr, IfSome};
 ghost use Rattle.std.specs.Option.{IfNone};
 ghost use Rattle.std.specs.Bool.{OnTrue, OnFalse};
 ghost use Rattle.kinds.specs.Cells.{last_moment};
@@ -6,7 +7,8 @@ ghost use Rattle.ready_queue.specs.Different.{HasGroups, different};
 ghost use Rattle.ready_queue.specs.Front.{IsFrontAt};
 ghost use Rattle.ready_queue.specs.Keys.{has, Changes, IsLeastOpen, AreAlike};
 ghost use Rattle.ready_queue.specs.Opens.{opens, HaveStarts};
-ghost use Rattle.ready_queue.specs.Places.{place_at, lowered, IsRaised, IsRestored, IsParkedAt, ParksNone, ParksOne, AreShut};
+ghost use Rattle.ready_queue.specs.Places.{place_at, lowered, IsRaised, IsRestored, IsParkedAt};
+ghost use Rattle.ready_queue.specs.Places.{ParksNone, ParksOne, AreShut};
 
 use crate::Gate;
 use crate::boxed::BoxedItem;
@@ -230,8 +232,10 @@ impl Index {
         requires shut { AreShut (opens (G.is_open gate.now t) items.now.entries) self.now }
         requires starts { HaveStarts items.now.entries }
         requires moment { t ≤ last_moment }
-        ensures least { IsLeastOpen (opens (G.is_open gate.now t) items.now.entries) self.now.keys result }
-        ensures asked { (gs : List ℕ) → HasGroups gs self.now.keys → steps.new ≤ steps.old + different gs }
+        ensures least { IsLeastOpen (opens (G.is_open gate.now t) items.now.entries)
+            self.now.keys result }
+        ensures asked { (gs : List ℕ) → HasGroups gs self.now.keys
+            → steps.new ≤ steps.old + different gs }
     {
         least_open(items, &self.keys, self.fronts.order(), t, gate, steps)
     }

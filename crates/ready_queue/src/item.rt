@@ -25,7 +25,9 @@ pub(crate) fn same_group(a: &Item, b: &Item) -> bool
 }
 
 fn is_lesser(other: &Item, item: &Item, t: u64) -> bool
-    ensures { result ≡ (nat_le other.now.due t && (is_lt (item_cmp other.now item.now) && same_group other.now item.now)) }
+    ensures { result
+        ≡ (nat_le other.now.due t
+        && (is_lt (item_cmp other.now item.now) && same_group other.now item.now)) }
 {
     other.due <= t && (comes_before(other, item) && same_group(other, item))
 }

@@ -1,6 +1,6 @@
-//! The calls that are to be made, and which of them may be made next. Stands on `lists`, `kinds` and `ordered`,
-//! and for its gate on `concurrency_keys` and `throttle`. Contracts see the list of items in order of number, and
-//! of a queue that parks groups those that are parked too.
+//! The calls that are to be made, and which of them may be made next. Stands on `lists`, `kinds` and
+//! `ordered`, and for its gate on `concurrency_keys` and `throttle`. Contracts see the list of items in
+//! order of number, and of a queue that parks groups those that are parked too.
 #![tactic(auto)]
 
 mod admission;

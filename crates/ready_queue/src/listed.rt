@@ -1,11 +1,12 @@
 ghost use Rattle.std.specs.Prelude.{◌≡◌, ◌⊎◌, ◌+◌, ◌≤◌, [], length, find, None, OnOk, OnErr, IfSome};
 ghost use Rattle.std.specs.Option.{option_copied, IfNone};
 ghost use Rattle.kinds.specs.Cells.{IsStart, last_moment};
-ghost use Rattle.kinds.specs.Queue.{has_number, has_run, number_of, without_number, without_run, insert_item, least_admissible, groups_of, next_item};
+ghost use Rattle.kinds.specs.Queue.{has_number, has_run, number_of, without_number, without_run};
+ghost use Rattle.kinds.specs.Queue.{insert_item, least_admissible, groups_of, next_item};
 ghost use Rattle.ordered.specs.Indexes.{IsTakenOf};
-ghost use Rattle.ready_queue.specs.Ahead.{IsSettled, IsItemOf};
+ghost use Rattle.ready_queue.specs.Ahead.{IsRipe, IsItemOf};
 ghost use Rattle.ready_queue.specs.Front.{IsFront, AllParked};
-ghost use Rattle.ready_queue.specs.Held.{Group, IsParked, AreFewer, AreOneMore, AreClosed};
+ghost use Rattle.ready_queue.specs.Held.{Group, HoldsNothing, IsParked, AreFewer, AreOneMore, AreClosed};
 ghost use Rattle.ready_queue.specs.Runs.{run_of};
 
 use crate::item::Group;
@@ -15,13 +16,13 @@ use concurrency_keys::ConcurrencyKeys;
 use kinds::{Item, Steps};
 use lists::Memory;
 use std::alloc::Global;
-use std::collections::BTreeSet;
+use std::collections::{BTreeMap, BTreeSet};
 use std::marker::Model;
 use std::sync::ledger::Ledger;
 use throttle::Starts;
 
-/// Items that wait to be issued, found by run too. Contracts see the items, and the groups of those that are
-/// ready.
+/// Items that wait to be issued, found by run too. Contracts see the items, and the groups of those that
+/// are ready.
 #[derive(Drop)]
 pub(crate) struct Listed {
     pool: Pool,
@@ -110,7 +111,8 @@ impl Listed {
 
     // Takes out an item of a run.
     fn take_of(&mut self, run: u64) -> Option<Item>
-        ensures one { IfSome result (λ item. IsTakenOf run_of number_of run self.old.items item self.new.items) }
+        ensures one { IfSome result
+            (λ item. IsTakenOf run_of number_of run self.old.items item self.new.items) }
         ensures same { IfNone result (self.new.items ≡ self.old.items) }
         ensures none { IfNone result (find (has_run run) self.old.items ≡ None) }
         ensures parked { AreFewer self.old.ready self.new.ready }
@@ -132,7 +134,7 @@ impl Listed {
         while let Some(_item) = self.take_of(run) {}
     }
 
-    /// The least of the items' next moments.
+    /// The least of the items' next moments. Looks at all items.
     pub(crate) fn next(&self, t: u64, cells: &ConcurrencyKeys, throttle: &Starts) -> Option<u64>
         requires { t ≤ last_moment }
         ensures { result ≡ next_item cells.now throttle.now t self.now.items }
@@ -158,9 +160,17 @@ impl Listed {
         Ok(())
     }
 
-    /// What is ahead, where the groups have what is due at the moment and nothing else, and all are parked.
+    /// What is ahead, where the groups have what is due at the moment and nothing else.
+    pub(crate) fn ripe(&self, t: u64) -> Option<Ahead>
+        ensures { IfSome result (λ a. IsRipe self.now.items self.now.ready t a.due) }
+    {
+        self.pool.ripe(t)
+    }
+
+    /// The same, where all groups are parked too.
     pub(crate) fn ahead(&self, t: u64) -> Option<Ahead>
-        ensures { IfSome result (λ a. IsSettled self.now.items self.now.ready t a.due) }
+        ensures ripe { IfSome result (λ a. IsRipe self.now.items self.now.ready t a.due) }
+        ensures parked { IfSome result (λ a. AllParked self.now.ready) }
     {
         self.pool.ahead(t)
     }
@@ -168,9 +178,16 @@ impl Listed {
     /// The first item of a group.
     pub(crate) fn first_of(&self, group: &Group) -> Option<&Item>
         ensures some { IfSome result (λ i. IsItemOf self.now.items self.now.ready group.now i.now) }
-        ensures none { IfNone result (IsParked self.now.ready group.now → ⊥) }
+        ensures none { IfNone result (HoldsNothing self.now.ready group.now) }
     {
         self.pool.first_of(group)
+    }
+
+    /// The groups, each with its number.
+    pub(crate) fn names(&self) -> &BTreeMap<Group, u64>
+        ensures { result.now.entries ≡ self.now.ready.held.names }
+    {
+        self.pool.names()
     }
 
     /// The first item of the first group that isn't parked.

@@ -6,8 +6,8 @@ use concurrency_keys::ConcurrencyKeys;
 use kinds::Item;
 use throttle::Starts;
 
-/// When the item may next be issued: at its due, where this is to come, and else at the release of its start,
-/// where it waits for one and its cells are free.
+/// When the item may next be issued: at its due, where this is to come, and else at the release of its
+/// start, where it waits for one and its cells are free.
 pub(crate) fn moment_of(
     item: &Item,
     t: u64,

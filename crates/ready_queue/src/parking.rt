@@ -1,15 +1,16 @@
-ghost use Rattle.std.specs.Prelude.{◌≡◌, ◌+◌, ◌≤◌, ◌<◌, ℕ, List, [], length, find, Some, None, OnOk, OnErr, IfOk, IfSome};
+ghost use Rattle.std.specs.Prelude.{◌≡◌, ◌+◌, ◌≤◌, ◌<◌, ℕ, List, [], length, find, Some, None};
+ghost use Rattle.std.specs.Prelude.{OnOk, OnErr, IfOk, IfSome};
 ghost use Rattle.std.specs.Bool.{OnTrue, OnFalse};
 ghost use Rattle.std.specs.Option.{option_copied, IfNone};
 ghost use Rattle.std.specs.Ordering.{nat_cmp};
 ghost use Rattle.kinds.specs.Cells.{IsStart, last_moment, cell_cmp, is_full};
-ghost use Rattle.kinds.specs.Queue.{has_number, without_number, without_run, insert_item, least_admissible, groups_of};
-ghost use Rattle.kinds.specs.Queue.{admits, next_item};
+ghost use Rattle.kinds.specs.Queue.{has_number, without_number, without_run, insert_item};
+ghost use Rattle.kinds.specs.Queue.{least_admissible, groups_of, admits, next_item};
 ghost use Rattle.ready_queue.specs.Held.{Group};
-ghost use Rattle.ready_queue.specs.Parking.{IsShut, IsHeldTill, ParksFewer, AreLookedAt, AreToCome, Loses};
-ghost use Rattle.ready_queue.specs.Parking.{at_moment, IsFirst};
+ghost use Rattle.ready_queue.specs.Parking.{IsShut, IsHeldTill, ParksFewer, AreLookedAt, AreToCome};
+ghost use Rattle.ready_queue.specs.Parking.{at_moment, IsFirst, Loses};
 
-use crate::ahead::least_parked;
+use crate::ahead::{least_parked, next_of};
 use crate::item::{Group, copy_of, group_of};
 use crate::listed::Listed;
 use crate::lot::{Lot, put_at, put_till, unpark_all};
@@ -23,10 +24,10 @@ use std::marker::Model;
 use std::sync::ledger::Ledger;
 use throttle::Starts;
 
-/// Items that wait to be issued, as in a [`ReadyQueue`](crate::ReadyQueue). A group that can't be open is parked:
-/// at a cell that is full, or till the moment before which its throttle lets no run start. It isn't looked at
-/// till the cell is named to `freed` or the moment has come. Contracts see the items, and which groups are parked
-/// where. Moments are milliseconds since 1970.
+/// Items that wait to be issued, as in a [`ReadyQueue`](crate::ReadyQueue). A group that can't be open
+/// is parked: at a cell that is full, or till the moment before which its throttle lets no run start.
+/// It isn't looked at till the cell is named to `freed` or the moment has come. Contracts see the
+/// items, and which groups are parked where. Moments are milliseconds since 1970.
 #[derive(Drop)]
 pub struct ParkingQueue {
     listed: Listed,
@@ -40,7 +41,11 @@ impl Model for ParkingQueue {
 
     ghost Value = { Parking };
 
-    ghost view = { λ q. record { items = q.listed.items; full = q.full.entries; later = q.later.entries } };
+    ghost view = { λ q. record {
+      items = q.listed.items;
+      full = q.full.entries;
+      later = q.later.entries;
+    } };
 
     ghost invariant = { λ q. HavePlaces q.listed.ready q.full.entries q.later.entries };
 }
@@ -56,7 +61,8 @@ fn full_limit<'a>(limits: &'a [CellLimit], cells: &ConcurrencyKeys) -> Option<&'
 fn held_till(start: &Option<Cell>, t: u64, throttle: &Starts) -> Option<u64>
     requires { IsStart start.now }
     ensures coming { IfSome result (λ m. t < m) }
-    ensures held { (cells : List CellLimit) → IfSome result (λ m. IsHeldTill throttle.now m (cells, start.now)) }
+    ensures held { (cells : List CellLimit)
+        → IfSome result (λ m. IsHeldTill throttle.now m (cells, start.now)) }
 {
     let Some(cell) = start else {
         return None;
@@ -140,7 +146,8 @@ impl ParkingQueue {
         Ok(())
     }
 
-    /// Cells are named that have fewer issues now: the groups that are parked at these are looked at again.
+    /// Cells are named that have fewer issues now: the groups that are parked at these are looked at
+    /// again.
     pub fn freed(&mut self, cells: &CellLimits) -> Result<(), Memory>
         ensures items { self.new.items ≡ self.old.items }
         ensures fewer { ParksFewer self.old self.new }
@@ -153,7 +160,8 @@ impl ParkingQueue {
     /// The first of the moments till which groups are parked.
     fn first_moment(&self) -> Option<u64>
         ensures least { IfSome result (λ f. IsFirst f self.now.later) }
-        ensures none { IfNone result ((m : ℕ) (gs : List Group) → at_moment m self.now.later ≡ Some gs → ⊥) }
+        ensures none { IfNone result
+            ((m : ℕ) (gs : List Group) → at_moment m self.now.later ≡ Some gs → ⊥) }
     {
         let Some((moment, _)) = self.later.first_key_value() else {
             return None;
@@ -205,8 +213,8 @@ impl ParkingQueue {
         Ok(())
     }
 
-    /// Lets a moment come: the groups that are parked till then are looked at again, and `settle_next` looks at
-    /// no item that isn't due, while it is asked for this moment.
+    /// Lets a moment come: the groups that are parked till then are looked at again, and `settle_next`
+    /// looks at no item that isn't due, while it is asked for this moment.
     pub fn pass(&mut self, t: u64) -> Result<(), Memory>
         ensures items { self.new.items ≡ self.old.items }
         ensures full { self.new.full ≡ self.old.full }
@@ -311,9 +319,9 @@ impl ParkingQueue {
         self.listed.least_admissible(t, &gate, steps)
     }
 
-    /// The first in order of score and number of the items that are due, whose cells are free, and that the
-    /// throttle lets start. Parks each group before it that can't be open; without memory for this, one isn't
-    /// parked.
+    /// The first in order of score and number of the items that are due, whose cells are free, and that
+    /// the throttle lets start. Parks each group before it that can't be open; without memory for this,
+    /// one isn't parked.
     pub fn settle_next<L: Ledger>(
         &mut self,
         t: u64,
@@ -332,9 +340,11 @@ impl ParkingQueue {
         self.least(t, cells, throttle, steps)
     }
 
-    /// The least of the dues past a moment, and of the releases of starts that due items wait for whose cells
-    /// are free. Takes no memory. After `pass` and a `settle_next` of this moment that found nothing, it looks at
-    /// the first due to come, and at the groups that are parked till moments before its answer; else at all items.
+    /// The least of the dues past a moment, and of the releases of starts that due items wait for whose
+    /// cells are free. Takes no memory. After `pass` and a `settle_next` of this moment that found
+    /// nothing, it looks at the first due to come, and at the groups that are parked till moments
+    /// before its answer; after `pass` alone at each group that has items that are due; else at all
+    /// items.
     pub fn next(&self, t: u64, cells: &ConcurrencyKeys, throttle: &Starts) -> Option<u64>
         requires moment { t ≤ last_moment }
         requires shut { IsShut self.now cells.now throttle.now t }
@@ -344,7 +354,7 @@ impl ParkingQueue {
             Some(ahead) => {
                 least_parked(&self.listed, &self.later, t, cells, throttle, ahead.due)
             }
-            None => self.listed.next(t, cells, throttle),
+            None => next_of(&self.listed, t, cells, throttle),
         }
     }
 

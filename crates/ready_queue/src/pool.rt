@@ -1,12 +1,15 @@
-ghost use Rattle.std.specs.Prelude.{◌≡◌, ◌⊎◌, ◌+◌, ◌≤◌, ◌<◌, IfSome, [], length, find, None, OnOk, OnErr, IfOk, true, false};
+ghost use Rattle.std.specs.Prelude.{◌≡◌, ◌⊎◌, ◌+◌, ◌≤◌, ◌<◌, IfSome, [], length, find, None};
+ghost use Rattle.std.specs.Prelude.{OnOk, OnErr, IfOk, true, false};
 ghost use Rattle.std.specs.Bool.{OnTrue, OnFalse};
 ghost use Rattle.std.specs.Option.{option_copied, IfNone};
 ghost use Rattle.kinds.specs.Cells.{IsStart, last_moment};
-ghost use Rattle.kinds.specs.Queue.{has_number, without_number, insert_item, least_admissible, groups_of, group_of, next_item};
-ghost use Rattle.ready_queue.specs.Ahead.{IsSettled, IsFirstDue, IsItemOf};
+ghost use Rattle.kinds.specs.Queue.{has_number, without_number, insert_item, least_admissible};
+ghost use Rattle.kinds.specs.Queue.{groups_of, group_of, next_item};
+ghost use Rattle.ready_queue.specs.Ahead.{IsRipe, IsFirstDue, IsItemOf};
 ghost use Rattle.ready_queue.specs.Front.{IsFront, AllParked};
 ghost use Rattle.ready_queue.specs.Heads.{second};
-ghost use Rattle.ready_queue.specs.Held.{Group, holds, Goes, IsParked, AreFewer, AreOneMore, AreClosed};
+ghost use Rattle.ready_queue.specs.Held.{Group, holds, HoldsNothing, Goes, IsParked};
+ghost use Rattle.ready_queue.specs.Held.{AreFewer, AreOneMore, AreClosed};
 ghost use Rattle.ready_queue.specs.Pool.{NoneDue};
 ghost use Rattle.ready_queue.specs.Store.{IsScore, lifted};
 
@@ -18,13 +21,13 @@ use concurrency_keys::ConcurrencyKeys;
 use kinds::{Item, Steps};
 use lists::Memory;
 use std::alloc::Global;
-use std::collections::BTreeSet;
+use std::collections::{BTreeMap, BTreeSet};
 use std::marker::Model;
 use std::sync::ledger::Ledger;
 use throttle::Starts;
 
-/// Items, those that are due in their groups, the others in order of their dues. The groups have what is due by
-/// `horizon`, and nothing else is due by `clear`.
+/// Items, those that are due in their groups, the others in order of their dues. The groups have what is
+/// due by `horizon`, and nothing else is due by `clear`.
 #[derive(Drop)]
 pub(crate) struct Pool {
     store: Store,
@@ -40,12 +43,18 @@ impl Model for Pool {
 
     ghost Value = { Pool };
 
-    ghost view = { λ p. record { items = p.store; ready = p.ready; waiting = p.waiting.keys; horizon = p.horizon; clear = p.clear } };
+    ghost view = { λ p. record {
+      items = p.store;
+      ready = p.ready;
+      waiting = p.waiting.keys;
+      horizon = p.horizon;
+      clear = p.clear;
+    } };
 
     ghost invariant = { λ p. IsPool p.store (holds p.ready.held) p.waiting.keys p.horizon p.clear };
 }
 
-/// The next moment is the first due to come, or one of a group that is parked.
+/// The next moment is the first due to come, or one of a group.
 #[derive(Clone, Copy)]
 pub(crate) struct Ahead {
     /// The first due to come, in milliseconds since 1970.
@@ -55,7 +64,8 @@ pub(crate) struct Ahead {
 /// Takes an item out of its group, and gives it back.
 fn leave(ready: &mut Ready, item: Item) -> Item
     ensures item { result ≡ item }
-    ensures goes { Goes (group_of item) (lifted item.score) item.number (holds ready.old.held) (holds ready.new.held) }
+    ensures goes { Goes (group_of item) (lifted item.score) item.number
+        (holds ready.old.held) (holds ready.new.held) }
     ensures parked { AreFewer ready.old ready.new }
 {
     let counted = lifted(&item);
@@ -165,8 +175,8 @@ impl Pool {
         }
     }
 
-    /// The first in order of the items that are due and for which the gate is open. Looks once at each group
-    /// that isn't parked where the groups have what is due at the moment, and else at all items.
+    /// The first in order of the items that are due and for which the gate is open. Looks once at each
+    /// group that isn't parked where the groups have what is due at the moment, and else at all items.
     pub(crate) fn least_admissible<G: Gate, L: Ledger>(
         &self,
         t: u64,
@@ -276,9 +286,9 @@ impl Pool {
         Ok(())
     }
 
-    /// What is ahead, where the groups have what is due at the moment and nothing else, and all are parked.
-    pub(crate) fn ahead(&self, t: u64) -> Option<Ahead>
-        ensures { IfSome result (λ a. IsSettled self.now.items self.now.ready t a.due) }
+    /// What is ahead, where the groups have what is due at the moment and nothing else.
+    pub(crate) fn ripe(&self, t: u64) -> Option<Ahead>
+        ensures { IfSome result (λ a. IsRipe self.now.items self.now.ready t a.due) }
     {
         if self.horizon != t {
             return None;
@@ -286,13 +296,21 @@ impl Pool {
         if self.clear != t {
             return None;
         }
-        if self.ready.open_groups() > 0 {
-            return None;
-        }
         let _items = self.store.map();
         Some(Ahead {
             due: self.first_due(),
         })
+    }
+
+    /// The same, where all groups are parked too.
+    pub(crate) fn ahead(&self, t: u64) -> Option<Ahead>
+        ensures ripe { IfSome result (λ a. IsRipe self.now.items self.now.ready t a.due) }
+        ensures parked { IfSome result (λ a. AllParked self.now.ready) }
+    {
+        if self.ready.open_groups() > 0 {
+            return None;
+        }
+        self.ripe(t)
     }
 
     // The first of the dues of the items that aren't in groups.
@@ -308,13 +326,20 @@ impl Pool {
     /// The first item of a group.
     pub(crate) fn first_of(&self, group: &Group) -> Option<&Item>
         ensures some { IfSome result (λ i. IsItemOf self.now.items self.now.ready group.now i.now) }
-        ensures none { IfNone result (IsParked self.now.ready group.now → ⊥) }
+        ensures none { IfNone result (HoldsNothing self.now.ready group.now) }
     {
         let Some(number) = self.ready.head(group) else {
             return None;
         };
         let item = self.store.item(number)?;
         Some(item)
+    }
+
+    /// The groups, each with its number.
+    pub(crate) fn names(&self) -> &BTreeMap<Group, u64>
+        ensures { result.now.entries ≡ self.now.ready.held.names }
+    {
+        self.ready.names()
     }
 
     /// The first item of the first group that isn't parked.
@@ -337,7 +362,7 @@ impl Pool {
         self.ready.open_groups()
     }
 
-    /// The least of the items' next moments.
+    /// The least of the items' next moments. Looks at all items.
     pub(crate) fn next(&self, t: u64, cells: &ConcurrencyKeys, throttle: &Starts) -> Option<u64>
         requires { t ≤ last_moment }
         ensures { result ≡ next_item cells.now throttle.now t self.now.items }

@@ -1,7 +1,9 @@
 ghost use Rattle.std.specs.Prelude.{◌≡◌, ◌+◌, ◌≤◌, [], find, None, OnOk, OnErr};
 ghost use Rattle.kinds.specs.Cells.{IsStart, last_moment};
-ghost use Rattle.kinds.specs.Queue.{has_number, without_number, without_run, insert_item, least_admissible, groups_of, next_item};
+ghost use Rattle.kinds.specs.Queue.{has_number, without_number, without_run, insert_item};
+ghost use Rattle.kinds.specs.Queue.{least_admissible, groups_of, next_item};
 
+use crate::ahead::next_of;
 use crate::listed::Listed;
 use crate::{Entries, Gate};
 use concurrency_keys::ConcurrencyKeys;
@@ -12,8 +14,8 @@ use std::marker::Model;
 use std::sync::ledger::Ledger;
 use throttle::Starts;
 
-/// Items that wait to be issued. Contracts see the list of items in order of number. Moments are milliseconds
-/// since 1970.
+/// Items that wait to be issued. Contracts see the list of items in order of number. Moments are
+/// milliseconds since 1970.
 #[derive(Drop)]
 pub struct ReadyQueue {
     listed: Listed,
@@ -52,8 +54,9 @@ impl ReadyQueue {
         Ok(())
     }
 
-    /// Lets a moment come: from now on `least_admissible` looks at each group of items that are due once, and at no
-    /// other item, while it is asked for this moment. Without this it looks at all items, and answers the same.
+    /// Lets a moment come: from now on `least_admissible` looks at each group of items that are due
+    /// once, and at no other item, while it is asked for this moment. Without this it looks at all
+    /// items, and answers the same.
     pub fn pass(&mut self, t: u64) -> Result<(), Memory>
         ensures { self.new ≡ self.old }
     {
@@ -61,9 +64,9 @@ impl ReadyQueue {
         Ok(())
     }
 
-    /// The first in order of score and number of the items that are due and for which the gate is open. Items
-    /// of equal cells with limits and equal start are a group, for which the gate is asked at most once.
-    /// Takes no memory.
+    /// The first in order of score and number of the items that are due and for which the gate is open.
+    /// Items of equal cells with limits and equal start are a group, for which the gate is asked at most
+    /// once. Takes no memory.
     pub fn least_admissible<G: Gate, L: Ledger>(
         &self,
         t: u64,
@@ -92,13 +95,14 @@ impl ReadyQueue {
         self.listed.remove_run(run);
     }
 
-    /// The least of the dues past a moment, and of the releases of starts that due items wait for whose cells
-    /// are free. Takes no memory.
+    /// The least of the dues past a moment, and of the releases of starts that due items wait for whose
+    /// cells are free. Takes no memory. After a `pass` of this moment it looks at the first due to come
+    /// and once at each group of items that are due; else at all items.
     pub fn next(&self, t: u64, cells: &ConcurrencyKeys, throttle: &Starts) -> Option<u64>
         requires { t ≤ last_moment }
         ensures { result ≡ next_item cells.now throttle.now t self.now }
     {
-        self.listed.next(t, cells, throttle)
+        next_of(&self.listed, t, cells, throttle)
     }
 
     /// The items by reference, in order of number.

@@ -20,7 +20,8 @@ use std::collections::BTreeMap;
 use std::marker::Model;
 use std::sync::ledger::Ledger;
 
-/// The groups that have items that are ready, each under a number of its own, and the keys of these items.
+/// The groups that have items that are ready, each under a number of its own, and the keys of these
+/// items.
 #[derive(Drop)]
 pub(crate) struct Ready {
     names: BTreeMap<Group, u64>,
@@ -95,7 +96,8 @@ impl Ready {
 
     /// Adds an item's group, score and number.
     pub(crate) fn add(&mut self, group: &Group, score: u64, number: u64) -> Result<(), Memory>
-        ensures ok { OnOk result (Comes group.now score number (holds self.old.held) (holds self.new.held)) }
+        ensures ok { OnOk result
+            (Comes group.now score number (holds self.old.held) (holds self.new.held)) }
         ensures err { OnErr result (AreSame (holds self.old.held) (holds self.new.held)) }
         ensures parked { AreFewer self.old self.new }
     {
@@ -158,6 +160,13 @@ impl Ready {
         ensures none { IfNone result (AllParked self.now) }
     {
         self.index.front()
+    }
+
+    /// The groups, each with its number.
+    pub(crate) fn names(&self) -> &BTreeMap<Group, u64>
+        ensures { result.now.entries ≡ self.now.held.names }
+    {
+        &self.names
     }
 
     /// How many groups aren't parked.

@@ -34,7 +34,8 @@ fn stops(best: Option<(i64, u64)>, item: &Item) -> bool
     }
 }
 
-/// The first of the best so far and an item, where this is due, first of its group, and the gate is open.
+/// The first of the best so far and an item, where this is due, first of its group, and the gate is
+/// open.
 fn step<G: Gate, L: Ledger>(
     items: &BTreeMap<u64, BoxedItem>,
     item: &Item,
@@ -45,7 +46,8 @@ fn step<G: Gate, L: Ledger>(
 ) -> Option<(i64, u64)>
     requires start { IsStart item.now.start }
     requires moment { t ≤ last_moment }
-    ensures { IsStep (leads t (values items.now)) (is_admissible (G.is_open gate.now t) t) item.now best result steps.old steps.new }
+    ensures { IsStep (leads t (values items.now)) (is_admissible (G.is_open gate.now t) t)
+        item.now best result steps.old steps.new }
 {
     if item.due > t {
         return best;
@@ -63,7 +65,8 @@ fn step<G: Gate, L: Ledger>(
     }
 }
 
-/// The first of the due items for which the gate is open. It is asked for the first due item of each group.
+/// The first of the due items for which the gate is open. It is asked for the first due item of each
+/// group.
 pub(crate) fn least_open<G: Gate, L: Ledger>(
     items: &BTreeMap<u64, BoxedItem>,
     t: u64,
@@ -72,8 +75,12 @@ pub(crate) fn least_open<G: Gate, L: Ledger>(
 ) -> Option<(i64, u64)>
     requires starts { AllByRecursion (λ (i : Item). IsStart i.start) (values items.now) }
     requires moment { t ≤ last_moment }
-    ensures least { result ≡ least_rank (λ i. leads t (values items.now) i && is_admissible (G.is_open gate.now t) t i) (values items.now) }
-    ensures asked { steps.new ≤ steps.old + length (filter (leads t (values items.now)) (values items.now)) }
+    ensures least { result
+        ≡ least_rank
+        (λ i. leads t (values items.now) i && is_admissible (G.is_open gate.now t) t i)
+        (values items.now) }
+    ensures asked { steps.new
+        ≤ steps.old + length (filter (leads t (values items.now)) (values items.now)) }
 {
     let mut best: Option<(i64, u64)> = None;
     for item in items.values() {

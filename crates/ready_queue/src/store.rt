@@ -2,7 +2,8 @@ ghost use Rattle.std.specs.Prelude.{◌≡◌, ◌+◌, ◌≤◌, [], find, Non
 ghost use Rattle.std.specs.BTreeMap.{values};
 ghost use Rattle.std.specs.Option.{option_copied};
 ghost use Rattle.kinds.specs.Cells.{IsStart, last_moment};
-ghost use Rattle.kinds.specs.Queue.{has_number, without_number, insert_item, least_admissible, groups_of, next_item};
+ghost use Rattle.kinds.specs.Queue.{has_number, without_number, insert_item, least_admissible};
+ghost use Rattle.kinds.specs.Queue.{groups_of, next_item};
 ghost use Rattle.ready_queue.specs.Store.{IsScore, IsStore};
 
 use crate::boxed::{BoxedItem, find_at, put_at, take_at};

@@ -4,7 +4,8 @@ ghost use Rattle.std.specs.List.Sorted.{IsStrictlySortedBy};
 ghost use Rattle.std.specs.Map.{lookup};
 ghost use Rattle.std.specs.Ordering.{nat_cmp};
 ghost use Rattle.kinds.specs.Cells.{IsStart, last_moment};
-ghost use Rattle.ready_queue.specs.Keys.{key_cmp, at_most, stops, IsHead, IsLooked, IsLeastOpen, AreAlike, Lead};
+ghost use Rattle.ready_queue.specs.Keys.{key_cmp, at_most, stops, IsHead, IsLooked};
+ghost use Rattle.ready_queue.specs.Keys.{IsLeastOpen, AreAlike, Lead};
 ghost use Rattle.ready_queue.specs.Opens.{opens, HaveStarts};
 
 use crate::Gate;
@@ -78,7 +79,8 @@ fn look<G: Gate, L: Ledger>(
     requires alike { AreAlike (opens (G.is_open gate.now t) items.now.entries) keys.now.keys }
     requires starts { HaveStarts items.now.entries }
     requires moment { t ≤ last_moment }
-    ensures looked { IsLooked (opens (G.is_open gate.now t) items.now.entries) keys.now.keys group best result }
+    ensures looked { IsLooked (opens (G.is_open gate.now t) items.now.entries)
+        keys.now.keys group best result }
     ensures asked { steps.new ≤ steps.old + 1 }
 {
     let Some(least) = head(keys, group) else {

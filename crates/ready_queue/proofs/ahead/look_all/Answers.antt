@@ -1,5 +1,5 @@
 use Rattle.std.proofs.Common.{◌∙◌, sym}
-use Rattle.ready_queue.proofs.AheadLemmas.{looking_start, looking_stop, looking_on, looking_done}
+use Rattle.ready_queue.proofs.AheadLemmas.{looking_start, looking_stop, looking_on, looking_done, parked_holds}
 use Rattle.ready_queue.proofs.ahead.look_all.Goals as goal
 
 pub loop-group-init : goal.loop-group-init
@@ -17,7 +17,7 @@ loop-group-preserved c = (
   tt,
   tt,
   looking_on _ _ _ _ _ _ c.args.groups.now.keys c.loop-group.group-iterator _ c.in-Some.group.now c.loop-group.found _ c.in-Some.ensures.steps c.loop-group.invariant.2 c.look-found.ensures.further
-      c.look-found.ensures.covers,
+      (λ p. let h = parked_holds c.args.listed.now.ready c.in-Some.group.now p in c.look-found.ensures.covers h.0 h.1 h.2),
 )
 
 pub returns-clause-further : goal.returns-clause-further
