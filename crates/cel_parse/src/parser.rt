@@ -44,7 +44,7 @@ fn whole(alloc: Global, text: &[u8], term: Term) -> Result<Expr, ParseFault>
     ensures { IsWhole text.now result }
 {
     match Bytes::from_slice(alloc, text) {
-        Ok(copy) => Ok(Expr::new(copy, term)),
+        Ok(copy) => Expr::new(alloc, copy, term).map_err(|_| ParseFault::Memory),
         Err(_) => Err(ParseFault::Memory),
     }
 }

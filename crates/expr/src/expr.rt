@@ -1,38 +1,42 @@
 ghost use Rattle.expr.specs.Reading.{tree_of_text};
 ghost use Rattle.expr.specs.Trees.{tree_of};
-ghost use Rattle.std.specs.Prelude.{◌≡◌, Some};
+ghost use Rattle.std.specs.Prelude.{◌≡◌, Some, IfOk};
 
 use crate::Term;
-use lists::Bytes;
-use std::alloc::AllocError;
+use crate::term::copy_box;
+use lists::{Bytes, Memory};
+use std::alloc::{AllocError, Global};
 use std::marker::Model;
 
 /// An expression. Contracts see it as its text, which fixes the tree that it keeps.
 #[derive(Drop)]
 pub struct Expr {
     text: Bytes,
-    term: Term,
+    term: Box<Term>,
 }
 
 impl Model for Expr {
     ghost use Rattle.expr.specs.Reading.{tree_of_text};
     ghost use Rattle.expr.specs.Trees.{tree_of};
-    ghost use Rattle.std.specs.Prelude.{◌≡◌, List, Some, ℕ};
+    ghost use Rattle.std.specs.Prelude.{◌≡◌, List, Some, ℕ, box_value};
 
     ghost Value = { List ℕ };
 
     ghost view = { λ e. e.text };
 
-    ghost invariant = { λ e. tree_of_text e.text ≡ Some (tree_of e.term) };
+    ghost invariant = { λ e. tree_of_text e.text ≡ Some (tree_of (box_value e.term)) };
 }
 
 impl Expr {
     /// A text with the tree that it is read as. The parser calls it.
-    pub fn new(text: Bytes, term: Term) -> Self
+    pub fn new(alloc: Global, text: Bytes, term: Term) -> Result<Self, Memory>
         requires tree { tree_of_text text ≡ Some (tree_of term) }
-        ensures { result ≡ text }
+        ensures { IfOk result (λ e. e ≡ text) }
     {
-        Expr { text, term }
+        Ok(Expr {
+            text,
+            term: Box::new(alloc, term)?,
+        })
     }
 
     /// The tree of the text.
@@ -59,7 +63,7 @@ impl Clone for Expr {
     fn clone(&self) -> Result<Self, AllocError> {
         Ok(Expr {
             text: self.text.clone()?,
-            term: self.term.clone()?,
+            term: copy_box(&self.term)?,
         })
     }
 }

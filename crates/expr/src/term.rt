@@ -119,7 +119,7 @@ fn copy(term: &Term) -> Result<Term, AllocError>
 }
 
 #[cycle(copy)]
-fn copy_box(term: &Box<Term>) -> Result<Box<Term>, AllocError>
+pub(crate) fn copy_box(term: &Box<Term>) -> Result<Box<Term>, AllocError>
     ensures { IfOk result (λ t. tree_of t.value ≡ tree_of term.now.value) }
 {
     Ok(Box::new(*Box::allocator(term), copy(term)?)?)
