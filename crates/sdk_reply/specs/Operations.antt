@@ -1,5 +1,5 @@
--- The operations that a reply asks for: objects with a step's name as `id`, the kind as `op`, and the parts of
--- that kind.
+-- The operations that a reply asks for: objects with a step's name as `id`, the kind as `op`, and the
+-- parts of that kind.
 use Rattle.std.specs.Prelude.{ℕ, List, [], ◌∷◌, bytes_eq, codes, if◌then◌else◌}
 use Rattle.std.specs.Prelude.{Option, Some, None, Result, Ok, Err, option_map, option_and_then}
 use Rattle.cel_parse.specs.Faults.{parse_text}
@@ -15,7 +15,8 @@ use Rattle.step_ids.specs.Step.{is_step_name}
 use Rattle.text_num.specs.Duration.{duration_of}
 use Rattle.text_num.specs.declared.fault.NumFault.{NumFault}
 use Rattle.sdk_reply.specs.declared.op_word.OpWord.{OpWord}
-use Rattle.sdk_reply.specs.declared.op_word.OpWord.TheVariants.{Ran, Failed, Planned, Sleeps, Waits, Invokes, Unknown}
+use Rattle.sdk_reply.specs.declared.op_word.OpWord.TheVariants.{Ran, Failed, Planned}
+use Rattle.sdk_reply.specs.declared.op_word.OpWord.TheVariants.{Sleeps, Waits, Invokes, Unknown}
 use Rattle.sdk_reply.specs.declared.part.Part.{Part}
 use Rattle.sdk_reply.specs.declared.part.Part.TheVariants.{Absent, Valid, Invalid}
 use Rattle.sdk_reply.specs.Dates.{date_moment}

@@ -1,5 +1,6 @@
 -- The operations of a list, or the first that isn't valid.
-use Rattle.std.specs.Prelude.{◌≡◌, ℕ, Bool, true, false, List, [], ◌∷◌, ◌++◌, Option, Some, None, Result, Ok, Err}
+use Rattle.std.specs.Prelude.{◌≡◌, ℕ, Bool, true, false, List, [], ◌∷◌, ◌++◌}
+use Rattle.std.specs.Prelude.{Option, Some, None, Result, Ok, Err}
 use Rattle.json_text.specs.Nodes.{Document, value_at}
 use Rattle.json_text.specs.Starts.{start_at}
 use Rattle.kinds.specs.declared.reply.Op.{Op}

@@ -40,7 +40,8 @@ ended_by reply (Err fault) = unreadable reply (place_of fault)
 
 -- an empty body is `null`
 abbrev pub ended : ReplyIn → Outcome
-ended reply = if length reply.body == 0 then Ended (codes "null") else ended_by reply (read_text reply.body)
+ended reply =
+    if length reply.body == 0 then Ended (codes "null") else ended_by reply (read_text reply.body)
 
 -- ## 206: the run goes on with operations
 
@@ -49,8 +50,8 @@ ops_from reply (Ok ops) = Ops ops (says_no_retry reply) (after_field reply.retry
 ops_from reply (Err (fault.NotValid at)) = unreadable reply at
 ops_from reply (Err fault.Memory) = unreadable reply 0
 
--- the items of an array, whose node is the first of all; what is no array isn't readable from the first byte of
--- the body on
+-- the items of an array, whose node is the first of all; what is no array isn't readable from the first
+-- byte of the body on
 abbrev pub ops_in : ReplyIn → Document → Json → Outcome
 ops_in reply d (array w parts) = ops_from reply (ops_at d (item_nodes d 0))
 ops_in reply d _ = unreadable reply 0

@@ -9,7 +9,8 @@ use jiff::fmt::temporal::parse_timestamp;
 use kinds::After;
 use text_num::read_u64;
 
-/// Reads the text of a field `Retry-After`: a number of seconds, else an HTTP date, else an RFC 3339 date.
+/// Reads the text of a field `Retry-After`: a number of seconds, else an HTTP date, else an RFC 3339
+/// date.
 pub(crate) fn read_after(text: &[u8]) -> After
     ensures { result ≡ after_text text.now }
 {

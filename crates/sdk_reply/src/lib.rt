@@ -1,6 +1,6 @@
-//! What an application's reply to a call means: the run's output, operations, or a failure with its error
-//! and when to try again. Stands on `json_text` for bodies and on `jiff` and `httpdate` for dates, and
-//! promises the outcome of each reply as a function of its bytes.
+//! What an application's reply to a call means: the run's output, operations, or a failure with its
+//! error and when to try again. Stands on `json_text` for bodies and on `jiff` and `httpdate` for dates,
+//! and promises the outcome of each reply as a function of its bytes.
 #![tactic(auto)]
 
 mod after;
@@ -17,6 +17,3 @@ mod times;
 
 pub use delays::delay;
 pub use outcome::read_reply;
-
-#[cfg(test)]
-mod tests;

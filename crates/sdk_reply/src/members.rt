@@ -4,7 +4,8 @@ ghost use Rattle.json_text.specs.Text.{inside, member_of, text_of, unescaped};
 ghost use Rattle.json_text.specs.declared.kind.Kind.TheVariants as kind;
 ghost use Rattle.step_ids.specs.Step.{is_step_name};
 ghost use Rattle.sdk_reply.specs.Found.{AreThere, parts_at};
-ghost use Rattle.sdk_reply.specs.Operations.{as_hash, as_name, hash_in, name_in, option_of, option_or_name, slice_in, slice_or_null, text_in};
+ghost use Rattle.sdk_reply.specs.Operations.{as_hash, as_name, hash_in, name_in, text_in};
+ghost use Rattle.sdk_reply.specs.Operations.{option_of, option_or_name, slice_in, slice_or_null};
 
 use crate::op_members::OpMembers;
 use json_text::{Kind, Node, Tree};
@@ -26,7 +27,8 @@ pub(crate) fn member_of(tree: &Tree<'_>, node: Node, name: &[u8]) -> Option<Node
 pub(crate) fn option_of(tree: &Tree<'_>, options: Option<Node>, name: &[u8]) -> Option<Node>
     requires { IfSome options (IsNodeOf tree.now) }
     ensures node { IfSome result (IsNodeOf tree.now) }
-    ensures value { option_map (value_at tree.now) result ≡ option_of (option_map (value_at tree.now) options) name.now }
+    ensures value { option_map (value_at tree.now) result
+        ≡ option_of (option_map (value_at tree.now) options) name.now }
 {
     match options {
         Some(options) => member_of(tree, options, name),
@@ -38,7 +40,8 @@ pub(crate) fn option_of(tree: &Tree<'_>, options: Option<Node>, name: &[u8]) -> 
 pub(crate) fn option_or_name(tree: &Tree<'_>, members: &OpMembers, name: &[u8]) -> Option<Node>
     requires { AreThere tree.now members.now }
     ensures node { IfSome result (IsNodeOf tree.now) }
-    ensures value { option_map (value_at tree.now) result ≡ option_or_name (parts_at tree.now members.now) name.now }
+    ensures value { option_map (value_at tree.now) result
+        ≡ option_or_name (parts_at tree.now members.now) name.now }
 {
     match option_of(tree, members.opts, name) {
         Some(option) => Some(option),
@@ -150,7 +153,8 @@ pub(crate) fn step_hash(name: &[u8]) -> StepHash
 pub(crate) fn plain_name<'a>(tree: &Tree<'a>, node: Option<Node>) -> Option<&'a [u8]>
     requires { IfSome node (IsNodeOf tree.now) }
     ensures form { IfSome result (λ name. is_step_name name.now ≡ true) }
-    ensures name { IfSome result (λ name. Some name.now ≡ hash_in (option_map (value_at tree.now) node)) }
+    ensures name { IfSome result
+        (λ name. Some name.now ≡ hash_in (option_map (value_at tree.now) node)) }
 {
     match node {
         Some(node) if tree.kind(node) == Kind::Text => name_within(tree.slice(node)),

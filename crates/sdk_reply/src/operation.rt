@@ -3,7 +3,9 @@ ghost use Rattle.json_text.specs.Nodes.{IsNodeOf, value_at};
 ghost use Rattle.step_ids.specs.Step.{is_step_name};
 ghost use Rattle.sdk_reply.specs.Found.{AreThere, parts_at};
 ghost use Rattle.sdk_reply.specs.Ops.{IsAdded};
-ghost use Rattle.sdk_reply.specs.Operations.{invoke, invoke_function, invoke_within, op_by, op_from, op_of, op_with, run_of, sleep, wait_for, wait_for_event, wait_until, wait_where};
+ghost use Rattle.sdk_reply.specs.Operations.{op_by, op_from, op_of, op_with, run_of, sleep};
+ghost use Rattle.sdk_reply.specs.Operations.{wait_for, wait_for_event, wait_until, wait_where};
+ghost use Rattle.sdk_reply.specs.Operations.{invoke, invoke_function, invoke_within};
 
 use crate::condition::optional_condition;
 use crate::members::{
@@ -78,7 +80,8 @@ fn push_word(
 ) -> Result<bool, Memory>
     requires members { AreThere tree.now members.now }
     requires name { is_step_name name.now ≡ true }
-    ensures { IfOk result (IsAdded ops.old (op_by word name.now (parts_at tree.now members.now)) ops.new) }
+    ensures { IfOk result
+        (IsAdded ops.old (op_by word name.now (parts_at tree.now members.now)) ops.new) }
 {
     match word {
         OpWord::Ran => push_run(ops, alloc, tree, members.data, name),
@@ -95,7 +98,8 @@ fn push_run(
 ) -> Result<bool, Memory>
     requires output { IfSome output (IsNodeOf tree.now) }
     requires name { is_step_name name.now ≡ true }
-    ensures { IfOk result (IsAdded ops.old (run_of name.now (option_map (value_at tree.now) output)) ops.new) }
+    ensures { IfOk result
+        (IsAdded ops.old (run_of name.now (option_map (value_at tree.now) output)) ops.new) }
 {
     let value = slice_or_null(alloc, tree, output)?;
     let hash = step_hash(name);
@@ -206,7 +210,8 @@ fn wait_for(
     event: Bytes,
 ) -> Result<Option<Op>, Memory>
     requires { AreThere tree.now members.now }
-    ensures { IfOk result (λ op. op ≡ wait_for hash (option_map (value_at tree.now) members.now.opts) event) }
+    ensures { IfOk result
+        (λ op. op ≡ wait_for hash (option_map (value_at tree.now) members.now.opts) event) }
 {
     match time_in(tree, option_of(tree, members.opts, b"timeout"))? {
         Some(timeout) => wait_until(alloc, tree, members, hash, event, timeout),
@@ -223,7 +228,8 @@ fn wait_until(
     timeout: Time,
 ) -> Result<Option<Op>, Memory>
     requires { AreThere tree.now members.now }
-    ensures { IfOk result (λ op. op ≡ wait_until hash (option_map (value_at tree.now) members.now.opts) event timeout) }
+    ensures { IfOk result
+        (λ op. op ≡ wait_until hash (option_map (value_at tree.now) members.now.opts) event timeout) }
 {
     let condition = optional_condition(alloc, tree, option_of(tree, members.opts, b"if"))?;
     Ok(wait_where(hash, event, timeout, condition))
@@ -253,7 +259,8 @@ fn invoke_function(
     hash: StepHash,
 ) -> Result<Option<Op>, Memory>
     requires { AreThere tree.now members.now }
-    ensures { IfOk result (λ op. op ≡ invoke_function hash (option_map (value_at tree.now) members.now.opts)) }
+    ensures { IfOk result
+        (λ op. op ≡ invoke_function hash (option_map (value_at tree.now) members.now.opts)) }
 {
     match text_in(tree, option_of(tree, members.opts, b"function_id"))? {
         Some(function) => invoke(alloc, tree, members, hash, function),
@@ -269,7 +276,8 @@ fn invoke(
     function: Bytes,
 ) -> Result<Option<Op>, Memory>
     requires { AreThere tree.now members.now }
-    ensures { IfOk result (λ op. op ≡ invoke hash (option_map (value_at tree.now) members.now.opts) function) }
+    ensures { IfOk result
+        (λ op. op ≡ invoke hash (option_map (value_at tree.now) members.now.opts) function) }
 {
     let payload = slice_in(alloc, tree, option_of(tree, members.opts, b"payload"))?;
     let timeout = optional_time(tree, option_of(tree, members.opts, b"timeout"))?;

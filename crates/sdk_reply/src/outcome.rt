@@ -1,7 +1,9 @@
 ghost use Rattle.std.specs.Prelude.{◌≡◌, IfOk};
 ghost use Rattle.sdk_reply.specs.After.{after_field};
 ghost use Rattle.json_text.specs.Nodes.{IsNodeOf};
-ghost use Rattle.sdk_reply.specs.Outcome.{ended, error_of, failed, fails_for_good, goes_on, json_error, object_error, ops_in, outcome_of, says_no_retry, status_error, unreadable};
+ghost use Rattle.sdk_reply.specs.Outcome.{outcome_of, ended, goes_on, failed, ops_in, unreadable};
+ghost use Rattle.sdk_reply.specs.Outcome.{error_of, json_error, object_error, status_error};
+ghost use Rattle.sdk_reply.specs.Outcome.{fails_for_good, says_no_retry};
 
 use crate::after::read_after;
 use crate::ops::{OpsFault, read_ops};
@@ -13,8 +15,8 @@ use std::alloc::Global;
 /// The greatest length of an error that is kept as it stands, in bytes.
 const MOST_ERROR: usize = 16_384;
 
-/// What a reply means: with status 200 that the run is over, with 206 that it goes on with operations, and
-/// with any other that the call failed.
+/// What a reply means: with status 200 that the run is over, with 206 that it goes on with operations,
+/// and with any other that the call failed.
 #[tactic(auto, unfolding(crate::specs::Outcome::outcome_of))]
 pub fn read_reply(alloc: Global, reply: &ReplyIn) -> Result<Outcome, Memory>
     ensures { IfOk result (λ outcome. outcome ≡ outcome_of reply.now) }

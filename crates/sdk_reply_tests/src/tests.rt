@@ -1,6 +1,6 @@
-use crate::{delay, read_reply};
 use kinds::{After, Op, Outcome, ReplyIn, Time};
 use lists::{Bytes, Memory};
+use sdk_reply::{delay, read_reply};
 use std::alloc::Global;
 use std::process::Abort;
 use std::test::Fail;
@@ -135,8 +135,8 @@ fn told(alloc: Global, reply: &ReplyIn) -> Result<Bytes, Memory> {
     Ok(line)
 }
 
-/// One operation with `NAME` as its `id` and these other members, after a space: `ops` and what it is, or
-/// `unreadable` from its brace on.
+/// One operation with `NAME` as its `id` and these other members, after a space: `ops` and what it is,
+/// or `unreadable` from its brace on.
 fn walk_parts(rt: &impl Abort, alloc: Global, rows: &[(&str, &str)]) -> Result<(), Fail> {
     for (parts, wanted) in rows {
         let mut body = String::new(alloc);
@@ -492,7 +492,8 @@ const UNREADABLE: &str = "failed {\"name\":\"Error\",\"message\":\"unreadable re
 
 const OF_500: &str = "again {\"name\":\"Error\",\"message\":\"status 500\"}";
 
-/// Status, `X-Inngest-No-Retry` and `Retry-After` (`-` where they are absent), body, and what it comes to.
+/// Status, `X-Inngest-No-Retry` and `Retry-After` (`-` where they are absent), body, and what it comes
+/// to.
 type Row = (
     u16,
     (&'static str, &'static str),
