@@ -8,7 +8,6 @@ pub mod Pigeons
 pub mod PoolLemmas
 pub mod RankLemmas
 pub mod ReadyLemmas
-pub mod Rows
 pub mod RunLemmas
 pub mod ScanLemmas
 pub mod Shut

@@ -27,6 +27,3 @@ pub use entries::Entries;
 pub use gate::Gate;
 pub use parking::ParkingQueue;
 pub use queue::ReadyQueue;
-
-#[cfg(test)]
-mod tests;

@@ -1,6 +1,6 @@
 use Rattle.ready_queue.proofs.Shut.{shut_passed}
-use Rattle.ready_queue.proofs.Rows.{shut_none}
-use Rattle.ready_queue.proofs.tests.let_start.Goals as goal
+use Rattle.ready_queue_tests.proofs.Rows.{shut_none}
+use Rattle.ready_queue_tests.proofs.tests.let_start.Goals as goal
 
 pub settle_next-held-requires-clause-shut : goal.settle_next-held-requires-clause-shut
 settle_next-held-requires-clause-shut g c = shut_none _ _ _ _ c.in_ok-queue.ensures.full c.in_ok-queue.ensures.later

@@ -1,11 +1,12 @@
-// Rows of the queues: which item comes first, how often a gate is asked, and when groups are looked at again.
+// Rows of the queues: which item comes first, how often a gate is asked, and when groups are looked at
+// again.
 ghost use Rattle.std.specs.Prelude.{◌≡◌, ◌<◌, ◌≤◌, [], IfOk};
 ghost use Rattle.kinds.specs.Cells.{IsThrottle, IsStart, last_moment};
 
-use crate::{Admission, Gate, ParkingQueue, ReadyQueue};
 use concurrency_keys::ConcurrencyKeys;
 use kinds::{Cell, CellLimit, CellLimits, Item, Steps};
 use lists::{Bytes, Items, Memory};
+use ready_queue::{Admission, Gate, ParkingQueue, ReadyQueue};
 use std::alloc::Global;
 use std::cell;
 use std::marker::Brand;

@@ -1,5 +1,5 @@
-use Rattle.ready_queue.proofs.Rows.{shut_none, shut_one_left}
-use Rattle.ready_queue.proofs.tests.freed.Goals as goal
+use Rattle.ready_queue_tests.proofs.Rows.{shut_none, shut_one_left}
+use Rattle.ready_queue_tests.proofs.tests.freed.Goals as goal
 
 pub settle_next-open-requires-clause-shut : goal.settle_next-open-requires-clause-shut
 settle_next-open-requires-clause-shut g c = shut_none _ _ _ _ c.in_ok-queue.ensures.full c.in_ok-queue.ensures.later
