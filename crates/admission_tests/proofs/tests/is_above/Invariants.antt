@@ -1,5 +1,5 @@
-use Rattle.admission.proofs.CallLemmas.{AreBelow}
-use Rattle.admission.proofs.tests.is_above.Given as goal
+use Rattle.admission_tests.proofs.Below.{AreBelow}
+use Rattle.admission_tests.proofs.tests.is_above.Given as goal
 
 abbrev pub invariant-loop-open : goal.invariant-loop-open
 invariant-loop-open l =

@@ -1,6 +1,6 @@
 use Rattle.std.proofs.Common.{sym, ◌∙◌, subst, arith}
-use Rattle.admission.proofs.CallLemmas.{AreBelow}
-use Rattle.admission.proofs.tests.is_above.Goals as goal
+use Rattle.admission_tests.proofs.Below.{AreBelow}
+use Rattle.admission_tests.proofs.tests.is_above.Goals as goal
 
 pub loop-open-init : goal.loop-open-init
 loop-open-init c = (

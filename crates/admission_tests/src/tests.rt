@@ -5,7 +5,7 @@ ghost use Rattle.std.specs.List.{AllByRecursion};
 ghost use Rattle.kinds.specs.Cells.{IsThrottle, IsStart};
 ghost use Rattle.admission.specs.declared.issue.Issue.{Issue};
 
-use crate::Admission;
+use admission::Admission;
 use kinds::{Cell, CellLimit, CellLimits, Item, StepHash, Steps};
 use lists::{Bytes, Items, Memory};
 use std::alloc::Global;
@@ -182,7 +182,8 @@ fn perform<L: Ledger>(
     }
 }
 
-/// How many items and open calls there are, the item that is issued next, and the first call whose limit is reached.
+/// How many items and open calls there are, the item that is issued next, and the first call whose
+/// limit is reached.
 type Seen = (usize, usize, Option<u64>, Option<u64>);
 
 type Row = (Act, Seen);
