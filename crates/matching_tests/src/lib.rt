@@ -1,4 +1,4 @@
-//! Examples of `wait_index` and `cancel_rules`, in one crate of their own: so what both need is there once.
+//! Examples of `wait_index` and `cancel_rules`, in one crate of their own: what both need is there once.
 #![tactic(auto)]
 
 #[cfg(test)]
