@@ -55,7 +55,8 @@ with_issued number call limit a = issue_found (find (has_number number) a.items)
 -- ## What the indexes say
 
 -- the cells count the open calls, and what is parked can't be open
-pub record IsAdmission (parking : Parking) (issues : List Issue) (cells : List IssueEntry) (starts : List StartEntry) (t : ℕ) : Type 0 where
+pub record IsAdmission (parking : Parking) (issues : List Issue) (cells : List IssueEntry)
+    (starts : List StartEntry) (t : ℕ) : Type 0 where
   pub counted : cells ≡ map in_cells issues
   pub shut : IsShut parking cells starts t
   pub near : t ≤ last_moment

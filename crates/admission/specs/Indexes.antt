@@ -1,5 +1,6 @@
 -- Sets of what is found by run and target, and by due and number.
-use Rattle.std.specs.Prelude.{◌≡◌, ℕ, ◌+◌, ◌*◌, ◌%◌, ◌^◌, Bool, false, true, not, List, filter, fold, find, Option, Some, None, bytes_eq}
+use Rattle.std.specs.Prelude.{◌≡◌, ℕ, ◌+◌, ◌*◌, ◌%◌, ◌^◌, Bool, false, true, not, bytes_eq}
+use Rattle.std.specs.Prelude.{List, filter, fold, find, Option, Some, None}
 use Rattle.std.specs.BTreeMap.{is_at}
 use Rattle.std.specs.BTreeMap.Range.{range_contains}
 use Rattle.std.specs.declared.ops.Bound.TheVariants.{Included, Excluded}
@@ -23,7 +24,8 @@ has_key keys part n = list_any (is_at (group_cmp pair_cmp (part, n))) keys
 
 -- the keys of a part, as a range of the set gives them
 abbrev pub is_within : ℕ → ℕ → (ℕ × ℕ) × ℕ → Bool
-is_within a b key = range_contains (group_cmp pair_cmp) (Included ((a, b), 0)) (Excluded ((a, b + 1), 0)) key
+is_within a b key =
+    range_contains (group_cmp pair_cmp) (Included ((a, b), 0)) (Excluded ((a, b + 1), 0)) key
 
 abbrev pub keys_of : ℕ → ℕ → Keys → Keys
 keys_of a b keys = filter (is_within a b) keys
@@ -53,7 +55,8 @@ pub record IsWaiting (items : List Item) (places : Keys) : Type 0 where
   pub listed : IsListed pair_cmp place_of number_of items places
   pub starts : AllByRecursion (λ (i : Item). IsStart i.start) items
 
--- the item of this number passes, so that dropping it first drops nothing else that a drop of all that pass leaves
+-- the item of this number passes, so that dropping it first drops nothing else that a drop of all that
+-- pass leaves
 pub record IsIn (passes : Item → Bool) (n : ℕ) (items : List Item) : Type 0 where
   pub item : Item
   pub found : find (has_number n) items ≡ Some item

@@ -1,4 +1,5 @@
-ghost use Rattle.std.specs.Prelude.{◌≡◌, ◌+◌, ◌++◌, ◌∷◌, ◌<◌, ◌≤◌, [], ℕ, true, map, find, drop, Some, None, OnOk, OnErr, IfOk};
+ghost use Rattle.std.specs.Prelude.{◌≡◌, ◌+◌, ◌++◌, ◌∷◌, ◌<◌, ◌≤◌, [], ℕ, true, map, find, drop};
+ghost use Rattle.std.specs.Prelude.{Some, None, OnOk, OnErr, IfOk};
 ghost use Rattle.std.specs.List.{AllByRecursion, list_any, slice_get};
 ghost use Rattle.std.specs.Option.{option_copied, option_map};
 ghost use Rattle.kinds.specs.Cells.{IsStart, last_moment, are_free, may_start, open_in, later_starts};
@@ -25,8 +26,8 @@ use throttle::Starts;
 /// How long a call may be open, in milliseconds.
 const LONGEST_CALL: u64 = 7_200_000;
 
-/// Items that wait to be issued, the calls that are open, and what throttles tell of later starts, at a moment in
-/// milliseconds since 1970. Contracts see these three lists and the moment.
+/// Items that wait to be issued, the calls that are open, and what throttles tell of later starts, at a
+/// moment in milliseconds since 1970. Contracts see these three lists and the moment.
 #[derive(Drop)]
 pub struct Admission {
     waiting: Waiting,
@@ -41,7 +42,12 @@ impl Model for Admission {
 
     ghost Value = { Admission };
 
-    ghost view = { λ a. record { items = a.waiting.items; issues = a.calls; starts = a.starts; moment = a.moment } };
+    ghost view = { λ a. record {
+      items = a.waiting.items;
+      issues = a.calls;
+      starts = a.starts;
+      moment = a.moment;
+    } };
 
     ghost invariant = { λ a. IsAdmission a.waiting a.calls a.cells a.starts a.moment };
 }
@@ -132,7 +138,8 @@ impl Admission {
     pub fn add(&mut self, item: Item) -> Result<(), Memory>
         requires fresh { find (has_number item.number) self.old.items ≡ None }
         requires start { IsStart item.start }
-        ensures ok { OnOk result (self.new ≡ record self.old { items = insert_item item self.old.items }) }
+        ensures ok { OnOk result
+            (self.new ≡ record self.old { items = insert_item item self.old.items }) }
         ensures err { OnErr result (self.new ≡ self.old) }
     {
         self.waiting.add(item)?;
@@ -208,7 +215,8 @@ impl Admission {
     /// Closes a call, and gives it where it is open. Without memory everything is as before.
     pub fn close(&mut self, call: u64) -> Result<Option<Issue>, Memory>
         ensures value { IfOk result (λ r. r ≡ find (has_call call) self.old.issues) }
-        ensures left { OnOk result (self.new ≡ record self.old { issues = without_call call self.old.issues }) }
+        ensures left { OnOk result
+            (self.new ≡ record self.old { issues = without_call call self.old.issues }) }
         ensures err { OnErr result (self.new ≡ self.old) }
     {
         let Some(issue) = self.calls.get(call) else {
@@ -235,7 +243,8 @@ impl Admission {
     pub fn arrive(&mut self, moment: u64) -> Result<(), Memory>
         requires later { self.old.moment ≤ moment }
         requires near { moment ≤ last_moment }
-        ensures ok { OnOk result (self.new ≡ record self.old { starts = later_starts moment self.old.starts; moment = moment }) }
+        ensures ok { OnOk result (self.new
+            ≡ record self.old { starts = later_starts moment self.old.starts; moment = moment }) }
         ensures err { OnErr result (self.new ≡ self.old) }
     {
         self.waiting.pass(moment)?;
@@ -244,8 +253,9 @@ impl Admission {
         Ok(())
     }
 
-    /// The item that is issued next: the first by score and number of those that are due, whose cells are free, and
-    /// that the throttle lets start. Asks at most once for each group of equal cells and start.
+    /// The item that is issued next: the first by score and number of those that are due, whose cells
+    /// are free, and that the throttle lets start. Asks at most once for each group of equal cells and
+    /// start.
     pub fn next<L: Ledger>(&mut self, steps: &mut Steps<L>) -> Option<u64>
         ensures next { result ≡ next_issued self.old }
         ensures same { self.new ≡ self.old }
@@ -255,8 +265,8 @@ impl Admission {
             .settle_next(self.moment, &self.cells, &self.starts, steps)
     }
 
-    /// Makes the call of the item that is issued next, with the numbers of the call and of its limit. Without memory
-    /// this value isn't to be used again.
+    /// Makes the call of the item that is issued next, with the numbers of the call and of its limit.
+    /// Without memory this value isn't to be used again.
     pub fn issue(&mut self, number: u64, call: u64, limit: u64) -> Result<(), Memory>
         requires next { next_issued self.old ≡ Some number }
         requires below { AllByRecursion (λ (i : Issue). i.call < call) self.old.issues }
@@ -277,10 +287,11 @@ impl Admission {
         self.calls.first_limit()
     }
 
-    /// The least of the dues of items that are to come, and of the releases of starts that due items wait for whose
-    /// cells are free.
+    /// The least of the dues of items that are to come, and of the releases of starts that due items
+    /// wait for whose cells are free.
     pub fn next_item(&self) -> Option<u64>
-        ensures { result ≡ next_item (issue_entries self.now) self.now.starts self.now.moment self.now.items }
+        ensures { result
+            ≡ next_item (issue_entries self.now) self.now.starts self.now.moment self.now.items }
     {
         self.waiting.next(self.moment, &self.cells, &self.starts)
     }

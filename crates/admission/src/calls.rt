@@ -2,7 +2,8 @@ ghost use Rattle.std.specs.Prelude.{◌≡◌, ◌<◌, ◌++◌, ◌∷◌, [],
 ghost use Rattle.std.specs.List.{AllByRecursion, list_any, slice_get};
 ghost use Rattle.std.specs.Option.{option_copied, option_map};
 ghost use Rattle.lists.specs.Entries.{AreApart};
-ghost use Rattle.admission.specs.Issues.{call_of, has_call, without_call, is_issue_of, has_open_call, first_due, limit_of};
+ghost use Rattle.admission.specs.Issues.{call_of, has_call, without_call, is_issue_of, has_open_call};
+ghost use Rattle.admission.specs.Issues.{first_due, limit_of};
 ghost use Rattle.admission.specs.declared.issue.Issue.{Issue};
 
 use crate::OpenCalls;

@@ -1,6 +1,7 @@
 use kinds::Item;
 
-/// An open call, with the item that it was made for. The item has no start, since none is needed to make it again.
+/// An open call, with the item that it was made for. The item has no start, since none is needed to
+/// make it again.
 #[derive(Drop)]
 pub struct Issue {
     pub call: u64,
@@ -11,7 +12,8 @@ pub struct Issue {
     pub due: u64,
 }
 
-/// When the limit of an open call is reached, in milliseconds since 1970, with the numbers of the limit and the call.
+/// When the limit of an open call is reached, in milliseconds since 1970, with the numbers of the limit
+/// and the call.
 #[derive(Clone, Copy, Debug, PartialEq, Eq)]
 pub struct CallLimit {
     pub due: u64,

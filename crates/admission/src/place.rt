@@ -68,7 +68,8 @@ fn first_key<'a, T: Targets>(
         .find(|place| entries.is_target(target, place.1))
 }
 
-/// The least number of a run's entries with the target. Looks at those alone whose targets have the same digest.
+/// The least number of a run's entries with the target. Looks at those alone whose targets have the same
+/// digest.
 pub(crate) fn first_of<T: Targets>(
     places: &BTreeSet<Place>,
     run: u64,

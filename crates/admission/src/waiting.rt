@@ -2,8 +2,8 @@ ghost use Rattle.std.specs.Prelude.{◌≡◌, ◌+◌, ◌≤◌, [], false, fi
 ghost use Rattle.std.specs.List.{list_any};
 ghost use Rattle.std.specs.Option.{option_copied, IfNone};
 ghost use Rattle.kinds.specs.Cells.{IsStart, last_moment};
-ghost use Rattle.kinds.specs.Queue.{number_of, has_number, has_run, without_number, without_run, insert_item};
-ghost use Rattle.kinds.specs.Queue.{admits, least_admissible, groups_of, next_item};
+ghost use Rattle.kinds.specs.Queue.{number_of, has_number, has_run, without_number, without_run};
+ghost use Rattle.kinds.specs.Queue.{insert_item, admits, least_admissible, groups_of, next_item};
 ghost use Rattle.lists.specs.Entries.{AreApart};
 ghost use Rattle.ready_queue.specs.Parking.{IsShut, ParksFewer, AreLookedAt, AreToCome};
 ghost use Rattle.admission.specs.Indexes.{IsIn};
@@ -20,7 +20,8 @@ use std::marker::Model;
 use std::sync::ledger::Ledger;
 use throttle::Starts;
 
-/// Items that wait to be issued, found by run and target too. Contracts see the items, and which groups are parked.
+/// Items that wait to be issued, found by run and target too. Contracts see the items, and which groups
+/// are parked.
 #[derive(Drop)]
 pub(crate) struct Waiting {
     queue: ParkingQueue,
@@ -171,7 +172,8 @@ impl Waiting {
         }
     }
 
-    /// Cells are named that have fewer calls now: the groups that are parked at these are looked at again.
+    /// Cells are named that have fewer calls now: the groups that are parked at these are looked at
+    /// again.
     pub(crate) fn freed(&mut self, cells: &CellLimits) -> Result<(), Memory>
         ensures items { self.new.items ≡ self.old.items }
         ensures fewer { ParksFewer self.old self.new }

@@ -1,7 +1,8 @@
 // Cancel rules in order of number.
 ghost use Rattle.std.specs.Prelude.{◌≡◌, ◌≤◌, ◌+◌, [], find, None, OnOk, OnErr, IfOk};
 ghost use Rattle.lists.specs.Entries.{has, without};
-ghost use Rattle.kinds.specs.Stores.{rule_number, rule_run, rule_condition, insert_rule, cancelled, AreBucketsRight};
+ghost use Rattle.kinds.specs.Stores.{rule_number, rule_run, rule_condition, insert_rule, cancelled};
+ghost use Rattle.kinds.specs.Stores.{AreBucketsRight};
 ghost use Rattle.matching.specs.Met.{asked_count};
 
 use kinds::{Event, Numbers, PathMatcher, Rule, Steps};
@@ -12,8 +13,8 @@ use std::alloc::Global;
 use std::marker::Model;
 use std::sync::ledger::Ledger;
 
-/// By what events runs are cancelled, each rule with a number of its own. Contracts see the list of rules
-/// in order of number.
+/// By what events runs are cancelled, each rule with a number of its own. Contracts see the list of
+/// rules in order of number.
 #[derive(Drop)]
 pub struct CancelRules {
     rules: Index<Rule>,
@@ -62,8 +63,8 @@ impl CancelRules {
     }
 
     /// The runs of all rules of the event's name whose condition is absent or true, each once, in order.
-    /// The caller owes that no bucket hides a rule whose condition is true of the event. Evaluated are at
-    /// most the rules of the event's bucket and the rules of its name without one.
+    /// The caller owes that no bucket hides a rule whose condition is true of the event. Evaluated are
+    /// at most the rules of the event's bucket and the rules of its name without one.
     pub fn matches<M: PathMatcher, L: Ledger>(
         &self,
         event: &Event,
@@ -72,7 +73,8 @@ impl CancelRules {
     ) -> Result<Numbers, Memory>
         requires right { AreBucketsRight rule_condition (M.is_true matcher.now) (M.value_of matcher.now)
             event.now self.now }
-        ensures cancelled { IfOk result (λ rs. rs ≡ cancelled (M.is_true matcher.now) event.now self.now) }
+        ensures cancelled { IfOk result
+            (λ rs. rs ≡ cancelled (M.is_true matcher.now) event.now self.now) }
         ensures asked { steps.new ≤ steps.old
             + asked_count rule_condition (M.value_of matcher.now) event.now self.now }
     {

@@ -1,16 +1,19 @@
 -- What the indexes of a run's steps hold.
-use Rattle.std.specs.Prelude.{◌≡◌, ◌≤◌, ℕ, suc, Bool, true, false, List, [], ◌∷◌, Option, Some, None, ◌||◌, nat_lt, find, if◌then◌else◌}
+use Rattle.std.specs.Prelude.{◌≡◌, ◌≤◌, ℕ, suc, Bool, true, false, List, [], ◌∷◌, Option, Some}
+use Rattle.std.specs.Prelude.{None, ◌||◌, nat_lt, find, if◌then◌else◌}
 use Rattle.std.specs.BTreeMap.{is_at}
 use Rattle.std.specs.Cmp.Lexicographic.{slice_cmp}
 use Rattle.std.specs.Map.{lookup}
 use Rattle.std.specs.Option.{option_map}
 use Rattle.std.specs.Ordering.{nat_cmp}
-use Rattle.kinds.specs.RunSteps.{RunSteps, has_name, is_recorded, is_planned, is_pending, names, most_names}
+use Rattle.kinds.specs.RunSteps.{RunSteps, has_name, is_recorded, is_planned, is_pending, names}
+use Rattle.kinds.specs.RunSteps.{most_names}
 use Rattle.kinds.specs.declared.store.Pending.{Pending}
 use Rattle.kinds.specs.declared.store.StepEntry.{StepEntry}
 
 abbrev pub steps_from : List StepEntry → List (List ℕ) → List (List ℕ × Pending) → RunSteps
-steps_from recorded planned pending = record { recorded = recorded; planned = planned; pending = pending }
+steps_from recorded planned pending =
+    record { recorded = recorded; planned = planned; pending = pending }
 
 -- where a name stands among the recorded steps
 abbrev pub place_of : List ℕ → List StepEntry → Option ℕ

@@ -8,7 +8,8 @@ use Rattle.run_state.specs.declared.active.Noted.TheVariants.{New, Known, Full, 
 abbrev pub IsNew : Noting → Type 0
 IsNew noting = (next : RunSteps) × (noting ≡ adds next)
 
--- The answer is what the definition finds. Only a new name can find no memory, and then nothing has changed.
+-- The answer is what the definition finds. Only a new name can find no memory, and then nothing has
+-- changed.
 abbrev pub Notes : Noting → RunSteps → Noted → Type 0
 Notes noting old (New next) = noting ≡ adds next
 Notes noting old (Known same) = (noting ≡ known) × (same ≡ old)

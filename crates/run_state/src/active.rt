@@ -1,6 +1,10 @@
-ghost use Rattle.std.specs.Prelude.{◌≡◌, ◌≤◌, ◌+◌, ◌<◌, true, false, OnOk, OnErr, is_some, length, nat_le};
+ghost use Rattle.std.specs.Prelude.{◌≡◌, ◌≤◌, ◌+◌, ◌<◌, true, false, OnOk, OnErr, is_some, length};
+ghost use Rattle.std.specs.Prelude.{nat_le};
 ghost use Rattle.std.specs.Option.{option_map};
-ghost use Rattle.kinds.specs.RunSteps.{no_steps, is_recorded, is_planned, is_pending, is_known, pending_of, result_of, names, most_names, record_step, plan_step, pend_step, keep_step, note_plan, note_pending, adds};
+ghost use Rattle.kinds.specs.RunSteps.{no_steps, is_recorded, is_planned, is_pending, is_known};
+ghost use Rattle.kinds.specs.RunSteps.{pending_of, result_of, names, most_names, record_step};
+ghost use Rattle.kinds.specs.RunSteps.{plan_step, pend_step, keep_step, note_plan, note_pending};
+ghost use Rattle.kinds.specs.RunSteps.{adds};
 ghost use Rattle.run_state.specs.Named.{AreApart, has_place};
 ghost use Rattle.run_state.specs.Noted.{Notes, Grow, steps_of};
 ghost use Rattle.run_state.specs.declared.ended.Ended.TheVariants.{Completed, Failed, Cancelled};
@@ -212,7 +216,8 @@ impl Active {
         self.is_recorded(hash) || self.is_planned(hash) || self.is_pending(hash)
     }
 
-    /// Records a result under a name that has none. A name that is neither planned nor pending needs room.
+    /// Records a result under a name that has none. A name that is neither planned nor pending needs
+    /// room.
     fn record(mut self, hash: &StepHash, text: Bytes) -> Noted
         requires free { is_recorded hash.now self ≡ false }
         requires place { has_place hash.now self ≡ true }

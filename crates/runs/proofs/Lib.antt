@@ -1,5 +1,4 @@
 pub mod Counting
-pub mod Fill
 pub mod Kept
 pub mod Listed
 pub mod Mentioned

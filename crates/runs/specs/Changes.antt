@@ -1,7 +1,11 @@
 -- What changes in a run: it is to find out what comes next, is called, records, plans, waits.
-use Rattle.std.specs.Prelude.{ℕ, ◌≡◌, ◌+◌, ◌==◌, Bool, true, false, not, ◌&&◌, ◌||◌, List, ◌++◌, map, length, codes, nat_lt, bytes_eq, if◌then◌else◌, Option, Some, None}
+use Rattle.std.specs.Prelude.{ℕ, ◌≡◌, ◌+◌, ◌==◌, Bool, true, false, not, ◌&&◌, ◌||◌, List, ◌++◌}
+use Rattle.std.specs.Prelude.{map, length, codes, nat_lt, bytes_eq, if◌then◌else◌, Option, Some}
+use Rattle.std.specs.Prelude.{None}
 use Rattle.kinds.specs.ErrorObject.{error_object}
-use Rattle.kinds.specs.RunSteps.{RunSteps, Noting, adds, known, full, is_pending, is_recorded, keep_step, note_pending, note_plan, pend_step, plan_step, record_step}
+use Rattle.kinds.specs.RunSteps.{RunSteps, Noting, adds, known, full, is_pending, is_recorded}
+use Rattle.kinds.specs.RunSteps.{keep_step, note_pending, note_plan, pend_step, plan_step}
+use Rattle.kinds.specs.RunSteps.{record_step}
 use Rattle.kinds.specs.declared.store.Pending.{Pending}
 use Rattle.runs.specs.Runs.{Run, bytes_of_steps}
 use Rattle.runs.specs.declared.naming.Naming.{Naming}
@@ -39,7 +43,8 @@ state_too_large = error_result (error_object (codes "run state too large"))
 -- a result that would bring the run past them is an error in its place
 abbrev pub result_for : List ℕ → Run → List ℕ
 result_for result r =
-    if nat_lt most_bytes (bytes_of_steps r.steps.recorded + length result) then state_too_large else result
+    if nat_lt most_bytes (bytes_of_steps r.steps.recorded + length result) then state_too_large
+    else result
 
 abbrev pub with_result : List ℕ → List ℕ → Run → Run
 with_result name result r = record r { steps = record_step name result r.steps; wanted = true }
@@ -95,6 +100,7 @@ is_pending_in name None = false
 is_pending_in name (Some r) = is_pending name r.steps
 
 -- What a note on a name answers, and what there is from then on.
-pub record IsNoted {A : Type 0} (noting : Noting) (next old : A) (naming : Naming) (new : A) : Type 0 where
+pub record IsNoted {A : Type 0} (noting : Noting) (next old : A) (naming : Naming) (new : A)
+    : Type 0 where
   pub told : naming ≡ naming_of noting
   pub now : new ≡ if_new naming next old

@@ -17,7 +17,9 @@ NoneIsZero counts = (q : ℕ) → lookup (is_at (nat_cmp q)) counts ≡ Some 0 �
 -- one part has this count from now on, where it has any
 abbrev pub Sets : ℕ → Option ℕ → List (ℕ × ℕ) → List (ℕ × ℕ) → Type 0
 Sets part count old new =
-    (q : ℕ) → lookup (is_at (nat_cmp q)) new ≡ cond (is_at (nat_cmp part) q) count (lookup (is_at (nat_cmp q)) old)
+    (q : ℕ)
+    → lookup (is_at (nat_cmp q)) new
+    ≡ cond (is_at (nat_cmp part) q) count (lookup (is_at (nat_cmp q)) old)
 
 pub record IsRaised (part : ℕ) (old new : List (ℕ × ℕ)) : Type 0 where
   pub each : (q : ℕ) → count_of q new ≡ count_of q old + cond (q == part) 1 0

@@ -1,5 +1,6 @@
 -- The runs that have ended, in order of ending.
-use Rattle.std.specs.Prelude.{ℕ, ◌≡◌, ◌≤◌, ◌<◌, ◌-◌, ◌==◌, Bool, not, List, ◌++◌, filter, take, drop, length, nat_le, if◌then◌else◌, Option, None, option_map}
+use Rattle.std.specs.Prelude.{ℕ, ◌≡◌, ◌≤◌, ◌<◌, ◌-◌, ◌==◌, Bool, not, List, ◌++◌, filter, take}
+use Rattle.std.specs.Prelude.{drop, length, nat_le, if◌then◌else◌, Option, None, option_map}
 use Rattle.std.specs.List.{slice_get}
 use Rattle.lists.specs.Entries.{AreApart}
 use Rattle.runs.specs.Mentions.{IsTold}

@@ -19,7 +19,8 @@ changed_at number f (e ∷ es) =
     if is_at (nat_cmp number) e.0 then (e.0, f e.1) ∷ es else e ∷ changed_at number f es
 
 -- each run under its number, the bytes of all results, who names an event, and how many are of a version
-pub record IsIndexed (entries : List (ℕ × Run)) (bytes : ℕ) (events versions : List (ℕ × ℕ)) : Type 0 where
+pub record IsIndexed (entries : List (ℕ × Run)) (bytes : ℕ) (events versions : List (ℕ × ℕ))
+    : Type 0 where
   pub stored : IsStored nat_cmp run_number entries
   pub summed : bytes ≡ bytes_of_results (values_of entries)
   pub named : IsTold run_number events_of (values_of entries) events

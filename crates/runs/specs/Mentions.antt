@@ -22,5 +22,6 @@ pub record IsParted (parts : List ℕ) (number : ℕ) (old new : List (ℕ × �
   pub each : (p n : ℕ) → mentions new p n ≡ (not (is_in p parts && n == number) && mentions old p n)
 
 -- the pairs tell what each of the entries mentions
-pub record IsTold {X : Type 0} (number : X → ℕ) (parts : X → List ℕ) (xs : List X) (pairs : List (ℕ × ℕ)) : Type 0 where
+pub record IsTold {X : Type 0} (number : X → ℕ) (parts : X → List ℕ) (xs : List X) (pairs : List (ℕ × ℕ))
+    : Type 0 where
   pub each : (p n : ℕ) → mentions pairs p n ≡ list_any (λ x. is_in p (parts x) && n == number x) xs

@@ -1,5 +1,6 @@
 -- Runs that have not ended or whose calls are open still, and the lists of them.
-use Rattle.std.specs.Prelude.{ℕ, ℤ, pos, ◌≡◌, ◌≤◌, ◌≤ℤ◌, neg_ℤ, ◌*ℤ◌, ◌-ℤ◌, ◌+◌, ◌==◌, Bool, true, List, [], ◌∷◌, length, find, Option, Some, None, is_some}
+use Rattle.std.specs.Prelude.{ℕ, ℤ, pos, ◌≡◌, ◌≤◌, ◌≤ℤ◌, neg_ℤ, ◌*ℤ◌, ◌-ℤ◌, ◌+◌, ◌==◌, Bool, true}
+use Rattle.std.specs.Prelude.{List, [], ◌∷◌, length, find, Option, Some, None, is_some}
 use Rattle.std.specs.List.{list_any}
 use Rattle.lists.specs.Entries.{has, insert_by}
 use Rattle.kinds.specs.Moments.{last_moment}
@@ -32,7 +33,8 @@ pub record Run : Type 0 where
   pub parent : Option Parent
   pub steps : RunSteps
 
--- the runs that have not ended, and those that have and whose calls are open still, each in order of number
+-- the runs that have not ended, and those that have and whose calls are open still, each in order of
+-- number
 pub record RunLists : Type 0 where
   pub live : List Run
   pub closing : List Run

@@ -1,6 +1,7 @@
 ghost use Rattle.std.specs.Prelude.{◌≡◌, true, IfOk, OnOk, OnErr};
 ghost use Rattle.kinds.specs.RunSteps.{is_pending};
-ghost use Rattle.runs.specs.Changes.{IsNoted, want, called, with_result, with_plan, with_pending, keep_in, plan_in, pend_in};
+ghost use Rattle.runs.specs.Changes.{IsNoted, want, called, with_result, with_plan, with_pending};
+ghost use Rattle.runs.specs.Changes.{keep_in, plan_in, pend_in};
 
 use crate::{Naming, Run};
 use kinds::{Pending, StepHash};
@@ -56,8 +57,8 @@ impl BoxedRun {
     }
 
     pub(crate) fn keep(&mut self, hash: &StepHash, text: Bytes) -> Result<Naming, Memory>
-        ensures ok { IfOk result (λ naming.
-            IsNoted (keep_in hash.now text self.old) (with_result hash.now text self.old) self.old naming self.new) }
+        ensures ok { IfOk result (λ naming. IsNoted (keep_in hash.now text self.old)
+            (with_result hash.now text self.old) self.old naming self.new) }
         ensures err { OnErr result (self.new ≡ self.old) }
     {
         self.run.keep(hash, text)
@@ -72,16 +73,16 @@ impl BoxedRun {
     }
 
     pub(crate) fn plan(&mut self, hash: &StepHash) -> Result<Naming, Memory>
-        ensures ok { IfOk result (λ naming.
-            IsNoted (plan_in hash.now self.old) (with_plan hash.now self.old) self.old naming self.new) }
+        ensures ok { IfOk result (λ naming. IsNoted (plan_in hash.now self.old)
+            (with_plan hash.now self.old) self.old naming self.new) }
         ensures err { OnErr result (self.new ≡ self.old) }
     {
         self.run.plan(hash)
     }
 
     pub(crate) fn pend(&mut self, hash: &StepHash, kind: Pending) -> Result<Naming, Memory>
-        ensures ok { IfOk result (λ naming.
-            IsNoted (pend_in hash.now kind self.old) (with_pending hash.now kind self.old) self.old naming self.new) }
+        ensures ok { IfOk result (λ naming. IsNoted (pend_in hash.now kind self.old)
+            (with_pending hash.now kind self.old) self.old naming self.new) }
         ensures err { OnErr result (self.new ≡ self.old) }
     {
         self.run.pend(hash, kind)

@@ -1,6 +1,7 @@
 ghost use Rattle.std.specs.Prelude.{◌≡◌, true, IfOk, OnOk, OnErr, length, nat_le};
 ghost use Rattle.std.specs.Option.{option_map};
-ghost use Rattle.kinds.specs.RunSteps.{no_steps, is_recorded, is_pending, result_of, keep_step, note_plan, note_pending, record_step, plan_step, pend_step};
+ghost use Rattle.kinds.specs.RunSteps.{no_steps, is_recorded, is_pending, result_of, keep_step};
+ghost use Rattle.kinds.specs.RunSteps.{note_plan, note_pending, record_step, plan_step, pend_step};
 ghost use Rattle.runs.specs.Changes.{IsNoted};
 
 use crate::{Naming, steps};
@@ -102,8 +103,8 @@ impl BoxedSteps {
 
     /// A step is to run by a call of its own.
     pub(crate) fn plan(&mut self, alloc: Global, hash: &StepHash) -> Result<Naming, Memory>
-        ensures ok { IfOk result (λ naming.
-            IsNoted (note_plan hash.now self.old) (plan_step hash.now self.old) self.old naming self.new) }
+        ensures ok { IfOk result (λ naming. IsNoted (note_plan hash.now self.old)
+            (plan_step hash.now self.old) self.old naming self.new) }
         ensures err { OnErr result (self.new ≡ self.old) }
     {
         self.begin(alloc)?;

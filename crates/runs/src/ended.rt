@@ -2,7 +2,8 @@ ghost use Rattle.std.specs.Prelude.{◌≡◌, [], ◌∷◌, ◌++◌, find, ma
 ghost use Rattle.std.specs.List.{list_any};
 ghost use Rattle.std.specs.Option.{option_copied};
 ghost use Rattle.lists.specs.Entries.{has, in_order};
-ghost use Rattle.runs.specs.Ended.{ended_number, ended_names, is_another, is_ended, last_ended, last_or, outgoing};
+ghost use Rattle.runs.specs.Ended.{ended_number, ended_names, is_another, is_ended, last_ended};
+ghost use Rattle.runs.specs.Ended.{last_or, outgoing};
 
 use crate::mentions::Mentions;
 use crate::row::Row;
@@ -28,8 +29,8 @@ pub struct EndedRun {
     pub events: Numbers,
 }
 
-/// Runs that have ended, each once, in order of ending. The last thousand are found by number and by event,
-/// those before them can be dropped.
+/// Runs that have ended, each once, in order of ending. The last thousand are found by number and by
+/// event, those before them can be dropped.
 #[derive(Drop)]
 pub struct EndedRuns {
     alloc: Global,
@@ -64,8 +65,8 @@ impl EndedRuns {
         }
     }
 
-    /// Adds a run that ends now, and says which one isn't among the last thousand any more. Want of memory
-    /// leaves no run.
+    /// Adds a run that ends now, and says which one isn't among the last thousand any more. Want of
+    /// memory leaves no run.
     pub fn add(&mut self, ended: EndedRun) -> Result<Option<u64>, Memory>
         requires { find (has ended_number ended.run) self.old ≡ None }
         ensures now { OnOk result (self.new ≡ self.old ++ ended ∷ []) }

@@ -23,6 +23,3 @@ pub use naming::Naming;
 pub use results::error_result;
 pub use run::{Origin, Run};
 pub use runs::Runs;
-
-#[cfg(test)]
-mod tests;

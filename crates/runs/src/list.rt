@@ -1,10 +1,11 @@
 // Runs in order of number, with indexes beside them.
-ghost use Rattle.std.specs.Prelude.{◌≡◌, [], map, filter, find, length, None, true, false, cond, IfOk, OnOk, OnErr};
+ghost use Rattle.std.specs.Prelude.{◌≡◌, [], map, filter, length, None, true, false, cond, IfOk, OnErr};
 ghost use Rattle.std.specs.List.{list_any};
 ghost use Rattle.std.specs.Option.{option_copied};
 ghost use Rattle.lists.specs.Entries.{AreApart, has, without, insert_by};
 ghost use Rattle.runs.specs.Runs.{run_number, run_at, bytes_of_results, names_event, has_version};
-ghost use Rattle.runs.specs.Changes.{changed, want, called, record_in, with_plan, with_pending, naming_in, if_new, is_pending_in, keep_in, plan_in, pend_in};
+ghost use Rattle.runs.specs.Changes.{changed, want, called, record_in, with_plan, with_pending};
+ghost use Rattle.runs.specs.Changes.{naming_in, if_new, is_pending_in, keep_in, plan_in, pend_in};
 
 use crate::boxed::BoxedRun;
 use crate::counted::Counted;
@@ -164,7 +165,8 @@ impl RunList {
         hash: &StepHash,
         text: Bytes,
     ) -> Result<Naming, Memory>
-        ensures named { IfOk result (λ n. n ≡ naming_in (keep_in hash.now text) (run_at number self.old)) }
+        ensures named { IfOk result (λ n.
+            n ≡ naming_in (keep_in hash.now text) (run_at number self.old)) }
         ensures now { IfOk result (λ n.
             self.new ≡ if_new n (changed number (record_in hash.now text) self.old) self.old) }
         ensures err { OnErr result (self.new ≡ self.old) }
@@ -222,7 +224,8 @@ impl RunList {
         hash: &StepHash,
         kind: Pending,
     ) -> Result<Naming, Memory>
-        ensures named { IfOk result (λ n. n ≡ naming_in (pend_in hash.now kind) (run_at number self.old)) }
+        ensures named { IfOk result (λ n.
+            n ≡ naming_in (pend_in hash.now kind) (run_at number self.old)) }
         ensures now { IfOk result (λ n.
             self.new ≡ if_new n (changed number (with_pending hash.now kind) self.old) self.old) }
         ensures err { OnErr result (self.new ≡ self.old) }

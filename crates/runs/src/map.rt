@@ -4,8 +4,9 @@ ghost use Rattle.std.specs.BTreeMap.{IsOrdered, insert_entry, is_at};
 ghost use Rattle.std.specs.Map.{remove_entry};
 ghost use Rattle.std.specs.Option.{IfNone, option_copied};
 ghost use Rattle.std.specs.Ordering.{nat_cmp};
-ghost use Rattle.runs.specs.Runs.{run_at};
-ghost use Rattle.runs.specs.Changes.{want, called, with_result, with_plan, with_pending, naming_in, if_new, is_pending_in, keep_in, plan_in, pend_in};
+ghost use Rattle.runs.specs.Runs.{};
+ghost use Rattle.runs.specs.Changes.{want, called, with_result, with_plan, with_pending, naming_in};
+ghost use Rattle.runs.specs.Changes.{if_new, is_pending_in, keep_in, plan_in, pend_in};
 ghost use Rattle.runs.specs.Indexes.{held, changed_at};
 
 use crate::boxed::BoxedRun;
@@ -75,7 +76,8 @@ pub(crate) fn keep_at(
     hash: &StepHash,
     text: Bytes,
 ) -> Result<Naming, Memory>
-    ensures named { IfOk result (λ n. n ≡ naming_in (keep_in hash.now text) (held number runs.old.entries)) }
+    ensures named { IfOk result (λ n.
+        n ≡ naming_in (keep_in hash.now text) (held number runs.old.entries)) }
     ensures now { IfOk result (λ n. runs.new.entries
         ≡ if_new n (changed_at number (with_result hash.now text) runs.old.entries) runs.old.entries) }
     ensures err { OnErr result (runs.new.entries ≡ runs.old.entries) }
@@ -94,7 +96,8 @@ pub(crate) fn wake_at(
     text: Bytes,
 ) -> Result<(), Memory>
     requires { is_pending_in hash.now (held number runs.old.entries) ≡ true }
-    ensures ok { OnOk result (runs.new.entries ≡ changed_at number (with_result hash.now text) runs.old.entries) }
+    ensures ok { OnOk result
+        (runs.new.entries ≡ changed_at number (with_result hash.now text) runs.old.entries) }
     ensures err { OnErr result (runs.new.entries ≡ runs.old.entries) }
 {
     let Some(run) = runs.get_mut(&number) else {
@@ -127,7 +130,8 @@ pub(crate) fn pend_at(
     hash: &StepHash,
     kind: Pending,
 ) -> Result<Naming, Memory>
-    ensures named { IfOk result (λ n. n ≡ naming_in (pend_in hash.now kind) (held number runs.old.entries)) }
+    ensures named { IfOk result (λ n.
+        n ≡ naming_in (pend_in hash.now kind) (held number runs.old.entries)) }
     ensures now { IfOk result (λ n. runs.new.entries
         ≡ if_new n (changed_at number (with_pending hash.now kind) runs.old.entries) runs.old.entries) }
     ensures err { OnErr result (runs.new.entries ≡ runs.old.entries) }

@@ -2,7 +2,8 @@ ghost use Rattle.std.specs.Prelude.{◌≡◌, IfOk, OnOk, OnErr, length, nat_le
 ghost use Rattle.std.specs.Option.{option_map, option_copied};
 ghost use Rattle.kinds.specs.RunSteps.{is_recorded, is_pending, result_of};
 ghost use Rattle.runs.specs.Runs.{IsBounded, first_of, score_of, bytes_of_steps};
-ghost use Rattle.runs.specs.Changes.{IsNoted, want, called, result_for, with_result, with_plan, with_pending, is_new_result, keep_in, plan_in, pend_in};
+ghost use Rattle.runs.specs.Changes.{IsNoted, want, called, result_for, with_result, with_plan};
+ghost use Rattle.runs.specs.Changes.{with_pending, is_new_result, keep_in, plan_in, pend_in};
 ghost use Rattle.runs.specs.Origin.{run_of};
 
 use crate::Naming;
@@ -39,8 +40,8 @@ pub struct Origin {
     pub parent: Option<Parent>,
 }
 
-/// A run that has not ended, or whose calls are open still. Contracts see the record of what is documented
-/// of it.
+/// A run that has not ended, or whose calls are open still. Contracts see the record of what is
+/// documented of it.
 #[derive(Drop)]
 pub struct Run {
     alloc: Global,
@@ -172,8 +173,8 @@ impl Run {
         }
     }
 
-    /// In the order of scores runs of one moment go, and those of others: the lesser comes first. It is the
-    /// moment less a thousand times the shift.
+    /// In the order of scores runs of one moment go, and those of others: the lesser comes first. It is
+    /// the moment less a thousand times the shift.
     pub fn score(&self) -> i64
         ensures { result ≡ score_of self.now }
     {
@@ -284,8 +285,8 @@ impl Run {
 
     /// A step reports its result, which fits.
     pub(crate) fn keep(&mut self, hash: &StepHash, text: Bytes) -> Result<Naming, Memory>
-        ensures ok { IfOk result (λ naming.
-            IsNoted (keep_in hash.now text self.old) (with_result hash.now text self.old) self.old naming self.new) }
+        ensures ok { IfOk result (λ naming. IsNoted (keep_in hash.now text self.old)
+            (with_result hash.now text self.old) self.old naming self.new) }
         ensures err { OnErr result (self.new ≡ self.old) }
     {
         let bytes = self.bytes.checked_add(text.len() as u64).ok_or(Memory)?;
@@ -316,8 +317,8 @@ impl Run {
 
     /// A step is to run by a call of its own.
     pub(crate) fn plan(&mut self, hash: &StepHash) -> Result<Naming, Memory>
-        ensures ok { IfOk result (λ naming.
-            IsNoted (plan_in hash.now self.old) (with_plan hash.now self.old) self.old naming self.new) }
+        ensures ok { IfOk result (λ naming. IsNoted (plan_in hash.now self.old)
+            (with_plan hash.now self.old) self.old naming self.new) }
         ensures err { OnErr result (self.new ≡ self.old) }
     {
         match self.steps.plan(self.alloc, hash)? {
@@ -332,8 +333,8 @@ impl Run {
 
     /// A step waits.
     pub(crate) fn pend(&mut self, hash: &StepHash, kind: Pending) -> Result<Naming, Memory>
-        ensures ok { IfOk result (λ naming.
-            IsNoted (pend_in hash.now kind self.old) (with_pending hash.now kind self.old) self.old naming self.new) }
+        ensures ok { IfOk result (λ naming. IsNoted (pend_in hash.now kind self.old)
+            (with_pending hash.now kind self.old) self.old naming self.new) }
         ensures err { OnErr result (self.new ≡ self.old) }
     {
         self.steps.pend(self.alloc, hash, kind)

@@ -1,10 +1,12 @@
-ghost use Rattle.std.specs.Prelude.{◌≡◌, ◌<◌, [], map, filter, length, None, cond, IfOk, OnOk, OnErr, ◌++◌, ◌∷◌};
+ghost use Rattle.std.specs.Prelude.{◌≡◌, ◌<◌, [], map, filter, length, cond, IfOk, OnOk, OnErr};
+ghost use Rattle.std.specs.Prelude.{◌++◌, ◌∷◌};
 ghost use Rattle.std.specs.List.{AllByRecursion};
 ghost use Rattle.std.specs.Option.{option_copied};
 ghost use Rattle.lists.specs.Entries.{AreApart, without};
 ghost use Rattle.runs.specs.Runs.{no_runs, run_number, run_at, with_run, bytes_of_results, names_event};
 ghost use Rattle.runs.specs.Names.{is_used, is_named, is_version_named};
-ghost use Rattle.runs.specs.Changes.{changed, want, called, record_in, with_plan, with_pending, naming_in, if_new, is_pending_in, keep_in, plan_in, pend_in};
+ghost use Rattle.runs.specs.Changes.{changed, want, called, record_in, with_plan, with_pending};
+ghost use Rattle.runs.specs.Changes.{naming_in, if_new, is_pending_in, keep_in, plan_in, pend_in};
 
 use crate::list::{Entries, RunList};
 use crate::{Naming, Run};
@@ -14,8 +16,8 @@ use std::alloc::Global;
 use std::marker::Model;
 use std::mem;
 
-/// The runs that have not ended, and those that have and whose calls are open still. Contracts see the two
-/// lists in order of number.
+/// The runs that have not ended, and those that have and whose calls are open still. Contracts see the
+/// two lists in order of number.
 #[derive(Drop)]
 pub struct Runs {
     alloc: Global,
@@ -137,8 +139,8 @@ impl Runs {
         self.live.want(number);
     }
 
-    /// A call of a run is made, where it has not ended. With the target `step` the call finds out what comes
-    /// next.
+    /// A call of a run is made, where it has not ended. With the target `step` the call finds out what
+    /// comes next.
     pub fn call(&mut self, number: u64, target: &[u8])
         ensures live { self.new.live ≡ changed number (called target.now) self.old.live }
         ensures closing { self.new.closing ≡ self.old.closing }
@@ -146,10 +148,11 @@ impl Runs {
         self.live.call(number, target);
     }
 
-    /// A step reports its result. One that would bring its run past 4 MiB is an error in its place. Want of
-    /// memory changes nothing.
+    /// A step reports its result. One that would bring its run past 4 MiB is an error in its place. Want
+    /// of memory changes nothing.
     pub fn keep(&mut self, number: u64, hash: &StepHash, text: Bytes) -> Result<Naming, Memory>
-        ensures named { IfOk result (λ n. n ≡ naming_in (keep_in hash.now text) (run_at number self.old.live)) }
+        ensures named { IfOk result (λ n.
+            n ≡ naming_in (keep_in hash.now text) (run_at number self.old.live)) }
         ensures live { IfOk result (λ n. self.new.live
             ≡ if_new n (changed number (record_in hash.now text) self.old.live) self.old.live) }
         ensures closing { self.new.closing ≡ self.old.closing }
@@ -158,11 +161,12 @@ impl Runs {
         self.live.keep(number, hash, text)
     }
 
-    /// What a step waits for has come, and is its result. The answer says whether a run that has not ended
-    /// waited for it. A result that would bring the run past 4 MiB is an error in its place. Want of memory
-    /// changes nothing.
+    /// What a step waits for has come, and is its result. The answer says whether a run that has not
+    /// ended waited for it. A result that would bring the run past 4 MiB is an error in its place. Want
+    /// of memory changes nothing.
     pub fn wake(&mut self, number: u64, hash: &StepHash, text: Bytes) -> Result<bool, Memory>
-        ensures woken { IfOk result (λ woken. woken ≡ is_pending_in hash.now (run_at number self.old.live)) }
+        ensures woken { IfOk result (λ woken.
+            woken ≡ is_pending_in hash.now (run_at number self.old.live)) }
         ensures live { IfOk result (λ woken. self.new.live
             ≡ cond woken (changed number (record_in hash.now text) self.old.live) self.old.live) }
         ensures closing { self.new.closing ≡ self.old.closing }
@@ -173,7 +177,8 @@ impl Runs {
 
     /// A step is to run by a call of its own. Want of memory changes nothing.
     pub fn plan(&mut self, number: u64, hash: &StepHash) -> Result<Naming, Memory>
-        ensures named { IfOk result (λ n. n ≡ naming_in (plan_in hash.now) (run_at number self.old.live)) }
+        ensures named { IfOk result (λ n.
+            n ≡ naming_in (plan_in hash.now) (run_at number self.old.live)) }
         ensures live { IfOk result (λ n.
             self.new.live ≡ if_new n (changed number (with_plan hash.now) self.old.live) self.old.live) }
         ensures closing { self.new.closing ≡ self.old.closing }
@@ -184,7 +189,8 @@ impl Runs {
 
     /// A step waits. Want of memory changes nothing.
     pub fn pend(&mut self, number: u64, hash: &StepHash, kind: Pending) -> Result<Naming, Memory>
-        ensures named { IfOk result (λ n. n ≡ naming_in (pend_in hash.now kind) (run_at number self.old.live)) }
+        ensures named { IfOk result (λ n.
+            n ≡ naming_in (pend_in hash.now kind) (run_at number self.old.live)) }
         ensures live { IfOk result (λ n. self.new.live
             ≡ if_new n (changed number (with_pending hash.now kind) self.old.live) self.old.live) }
         ensures closing { self.new.closing ≡ self.old.closing }
@@ -196,7 +202,8 @@ impl Runs {
     /// A run ends, and is here until it is closed. Want of memory leaves no run that has ended.
     pub fn end(&mut self, number: u64) -> Result<(), Memory>
         ensures live { self.new.live ≡ without run_number number self.old.live }
-        ensures closing { OnOk result (self.new.closing ≡ with_run (run_at number self.old.live) self.old.closing) }
+        ensures closing { OnOk result
+            (self.new.closing ≡ with_run (run_at number self.old.live) self.old.closing) }
     {
         let Some(run) = self.live.remove(number) else {
             return Ok(());

@@ -1,6 +1,7 @@
 // A note on a name of a run's steps, which are put back after it.
 ghost use Rattle.std.specs.Prelude.{◌≡◌, true, IfOk, OnOk, OnErr};
-ghost use Rattle.kinds.specs.RunSteps.{is_pending, no_steps, keep_step, note_plan, note_pending, record_step, plan_step, pend_step};
+ghost use Rattle.kinds.specs.RunSteps.{is_pending, keep_step, note_plan, note_pending, record_step};
+ghost use Rattle.kinds.specs.RunSteps.{plan_step, pend_step};
 ghost use Rattle.run_state.specs.Noted.{steps_of};
 ghost use Rattle.runs.specs.Changes.{IsNoted};
 ghost use Rattle.runs.specs.Noted.{Tells, IsStarved};
@@ -51,8 +52,8 @@ pub(crate) fn keep(
     hash: &StepHash,
     text: Bytes,
 ) -> Result<Naming, Memory>
-    ensures ok { IfOk result (λ naming.
-        IsNoted (keep_step hash.now text steps.old) (record_step hash.now text steps.old) steps.old naming steps.new) }
+    ensures ok { IfOk result (λ naming. IsNoted (keep_step hash.now text steps.old)
+        (record_step hash.now text steps.old) steps.old naming steps.new) }
     ensures err { OnErr result (steps.new ≡ steps.old) }
 {
     let noted = taken(steps, alloc).keep(hash, text);
@@ -61,8 +62,8 @@ pub(crate) fn keep(
 
 /// A step is to run by a call of its own.
 pub(crate) fn plan(steps: &mut Active, alloc: Global, hash: &StepHash) -> Result<Naming, Memory>
-    ensures ok { IfOk result (λ naming.
-        IsNoted (note_plan hash.now steps.old) (plan_step hash.now steps.old) steps.old naming steps.new) }
+    ensures ok { IfOk result (λ naming. IsNoted (note_plan hash.now steps.old)
+        (plan_step hash.now steps.old) steps.old naming steps.new) }
     ensures err { OnErr result (steps.new ≡ steps.old) }
 {
     let noted = taken(steps, alloc).plan(hash);

@@ -5,6 +5,3 @@
 mod waits;
 
 pub use waits::WaitIndex;
-
-#[cfg(test)]
-mod tests;

@@ -1,7 +1,8 @@
 // Waits in order of number.
 ghost use Rattle.std.specs.Prelude.{◌≡◌, ◌≤◌, ◌+◌, [], find, None, OnOk, OnErr, IfOk};
 ghost use Rattle.lists.specs.Entries.{has, without};
-ghost use Rattle.kinds.specs.Stores.{wait_number, wait_run, wait_condition, insert_wait, woken, AreBucketsRight};
+ghost use Rattle.kinds.specs.Stores.{wait_number, wait_run, wait_condition, insert_wait, woken};
+ghost use Rattle.kinds.specs.Stores.{AreBucketsRight};
 ghost use Rattle.matching.specs.Met.{asked_count};
 
 use kinds::{Event, Numbers, PathMatcher, Steps, Wait};

@@ -1,8 +1,0 @@
-use Rattle.admission.proofs.CallLemmas.{AreBelow}
-use Rattle.admission.proofs.tests.is_above.Given as goal
-
-abbrev pub invariant-loop-open : goal.invariant-loop-open
-invariant-loop-open l =
-    goal.iterator-loop-open.can_next l.open-iterator ×
-    goal.iterator-loop-open.is_finite l.open-iterator ×
-    (AreBelow l.call l.open-iterator → AreBelow l.call l.admission.issues)

@@ -1,6 +1,0 @@
-use Rattle.runs.specs.Ended.{ended_number}
-use Rattle.runs.proofs.Fill.{AreBelow}
-use Rattle.runs.proofs.tests.all_ended.Given as goal
-
-abbrev pub invariant-loop-number : goal.invariant-loop-number
-invariant-loop-number l = AreBelow ended_number l.number l.runs

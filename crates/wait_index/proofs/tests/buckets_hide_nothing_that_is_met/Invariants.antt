@@ -1,4 +1,0 @@
-use Rattle.wait_index.proofs.tests.buckets_hide_nothing_that_is_met.Given as goal
-
-abbrev pub ghosts-meets : goal.ghosts-meets
-ghosts-meets g a = record { name = a.blank.name; parts = a.blank.parts }

@@ -1,4 +1,0 @@
-use Rattle.wait_index.proofs.tests.equal_numbers_share_a_bucket.Given as goal
-
-abbrev pub ghosts-meets : goal.ghosts-meets
-ghosts-meets g a = record { name = a.blank.name; parts = a.blank.parts }
