@@ -1,3 +1,4 @@
+// Items, open calls and the starts of throttles, together at a moment.
 ghost use Rattle.std.specs.Prelude.{◌≡◌, ◌+◌, ◌++◌, ◌∷◌, ◌<◌, ◌≤◌, [], ℕ, true, map, find, drop};
 ghost use Rattle.std.specs.Prelude.{Some, None, OnOk, OnErr, IfOk};
 ghost use Rattle.std.specs.List.{AllByRecursion, list_any, slice_get};

@@ -1,3 +1,4 @@
+// What is known of an open call, and when its limit is reached.
 use kinds::Item;
 
 /// An open call, with the item that it was made for. The item has no start, since none is needed to

@@ -1,3 +1,4 @@
+// The iterator over open calls.
 ghost use Rattle.std.specs.Prelude.{◌≡◌};
 
 use crate::issue::Issue;

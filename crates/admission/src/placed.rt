@@ -1,3 +1,4 @@
+// Open calls, found by run and target.
 ghost use Rattle.std.specs.Prelude.{◌≡◌, ◌<◌, ◌++◌, ◌∷◌, [], find, OnOk, OnErr};
 ghost use Rattle.std.specs.List.{AllByRecursion, list_any, slice_get};
 ghost use Rattle.std.specs.Option.{option_copied, option_map};

@@ -1,3 +1,4 @@
+// What becomes of an event that is offered to windows.
 use kinds::Numbers;
 
 /// What became of an event that was offered to a function's windows.

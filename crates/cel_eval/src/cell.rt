@@ -1,3 +1,4 @@
+// Results of expressions as keys of cells and windows.
 ghost use Rattle.std.specs.Prelude.{◌≡◌, ◌≢◌, ◌<◌, ◌^◌, ◌++◌, unsigned_abs, IfOk, OnOk, Err};
 ghost use Rattle.text_num.specs.Units.{units_text};
 ghost use Rattle.cel_eval.specs.Cells.{cell_text, value_text, IsInUnits};

@@ -1,3 +1,4 @@
+// Whether two values are equal, item by item and member by member.
 ghost use Rattle.std.specs.Prelude.{◌≡◌, IfOk, drop};
 ghost use Rattle.json_text.specs.Grammar.{spelling};
 ghost use Rattle.json_text.specs.Nodes.{kind_of, items_of};

@@ -1,3 +1,4 @@
+// The public calls: an expression over one event or two.
 ghost use Rattle.std.specs.Prelude.{◌≡◌, ◌+◌, IfOk, MatchResult, None};
 ghost use Rattle.std.specs.Option.{option_copied};
 ghost use Rattle.lists.specs.Starved.{OrStarved};

@@ -1,3 +1,4 @@
+// Why an expression has no value.
 use lists::Memory;
 use std::alloc::{AllocError, AllocFailed};
 use std::fmt;

@@ -1,3 +1,4 @@
+// Members and items of a value, and `has`.
 ghost use Rattle.std.specs.Prelude.{◌≡◌};
 ghost use Rattle.cel_eval.specs.Operands.{data_of, datum_of, Gives};
 ghost use Rattle.cel_eval.specs.Operations.{member, index, item_at, item, is_list, is_object, has, written_item, found};

@@ -1,3 +1,4 @@
+// What a part of an expression is worth, while it is evaluated.
 ghost use Rattle.std.specs.Prelude.{◌≡◌, Ok};
 ghost use Rattle.std.specs.Option.{option_copied};
 ghost use Rattle.json_text.specs.Nodes.{kind_of};

@@ -1,3 +1,4 @@
+// Operators between two values: logic, comparisons and `in`.
 ghost use Rattle.std.specs.Prelude.{◌≡◌, IfOk, ◌&&◌, true, false};
 ghost use Rattle.cel_eval.specs.Data.{object};
 ghost use Rattle.cel_eval.specs.Operands.{datum_of, Gives};

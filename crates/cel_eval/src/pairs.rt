@@ -1,3 +1,4 @@
+// Arithmetic of two values, and texts that are joined.
 ghost use Rattle.std.specs.Prelude.{◌≡◌, ◌++◌, ◌≤◌, length};
 ghost use Rattle.cel_eval.specs.Operands.{datum_of, Gives};
 ghost use Rattle.cel_eval.specs.Operations.{plus, calculate, difference, product, quotient, remainder, in_room, stands_in, test_texts, text_method, text_lt, text_le, less, less_or_equal};

@@ -1,3 +1,4 @@
+// A value in the text of an event.
 ghost use Rattle.std.specs.Prelude.{◌≡◌, IfOk, slice_get};
 ghost use Rattle.json_text.specs.Grammar.{spelling};
 ghost use Rattle.json_text.specs.Nodes.{kind_of, len_of, item_of, items_of, IsNodeOf, value_at};

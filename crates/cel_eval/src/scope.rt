@@ -1,3 +1,4 @@
+// The events that an expression is evaluated over.
 ghost use Rattle.std.specs.Prelude.{◌≡◌};
 ghost use Rattle.std.specs.Option.{option_copied};
 ghost use Rattle.cel_eval.specs.Operands.{Gives};

@@ -1,3 +1,4 @@
+// Signs, and functions and methods of texts.
 ghost use Rattle.std.specs.Prelude.{◌≡◌};
 ghost use Rattle.expr.specs.declared.term.Sign.TheVariants as sign;
 ghost use Rattle.cel_eval.specs.Data.{number};

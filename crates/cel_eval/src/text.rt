@@ -1,3 +1,4 @@
+// Strings of an event's text that stand for themselves.
 ghost use Rattle.std.specs.Prelude.{◌≡◌, IfSome};
 ghost use Rattle.json_text.specs.Text.{inside, unescaped};
 

@@ -1,3 +1,4 @@
+// Numbers within the range of expressions.
 ghost use Rattle.std.specs.Prelude.{◌≡◌, ◌≢◌, ◌<◌, ◌^◌, ◌/◌, ◌*◌, ◌*ℤ◌, int_div, neg_ℤ, unsigned_abs, pos, int_lt, int_le};
 ghost use Rattle.std.specs.Ordering.{int_eq};
 ghost use Rattle.cel_eval.specs.Data.{in_units};

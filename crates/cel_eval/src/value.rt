@@ -1,3 +1,4 @@
+// The value of an expression as callers see it.
 use lists::Bytes;
 
 /// What an expression is worth. Lists and objects carry nothing, since no caller looks into them.

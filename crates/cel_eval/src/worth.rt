@@ -1,3 +1,4 @@
+// What each form of a term is worth.
 ghost use Rattle.std.specs.Prelude.{◌≡◌, IfOk, Ok};
 ghost use Rattle.expr.specs.Trees.{tree_of, trees_of};
 ghost use Rattle.cel_eval.specs.Data.{Outcome, as_number, in_units, written};

@@ -1,3 +1,4 @@
+// A text is cut into tokens.
 ghost use Rattle.std.specs.Prelude.{◌≡◌, ◌∷◌, ◌<◌, [], length, ℕ, List, IfOk, MatchOption};
 ghost use Rattle.expr.specs.Tokens.{Placed as PlacedToken, behind_number, behind_spaces, cut, cut_at, cut_number, cut_sign, two, without_zeros, begins_name, goes_on_name, name_front, behind_name, is_space, placed_at};
 ghost use Rattle.cel_parse.specs.Strings.{token_at};

@@ -1,3 +1,4 @@
+// Why a text is no expression, and where.
 use lists::Memory;
 use std::alloc::{AllocError, AllocFailed};
 use std::fmt;

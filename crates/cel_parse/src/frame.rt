@@ -1,3 +1,4 @@
+// The stack of what is open while tokens are read.
 ghost use Rattle.std.specs.Prelude.{◌≡◌, ◌∷◌, ◌<◌, [], List, length, OnOk, IfOk, MatchOption};
 ghost use Rattle.expr.specs.Reading.{Frame as Layer, is_asked, rank_of, reduce, held, opens};
 ghost use Rattle.expr.specs.Trees.{tree_of};

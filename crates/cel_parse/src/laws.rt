@@ -1,3 +1,4 @@
+// Laws of the grammar: one tree a text, and where its faults are.
 ghost use Rattle.std.specs.Prelude.{◌≡◌, ◌⊎◌, [], List, length, ℕ, Some, Ok, Err};
 ghost use Rattle.expr.specs.Reading.{want, tree_of_text};
 ghost use Rattle.expr.specs.Tokens.{placed_tokens};

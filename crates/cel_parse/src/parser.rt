@@ -1,3 +1,4 @@
+// The public call: a text as an expression, or its first fault.
 ghost use Rattle.std.specs.Prelude.{◌≡◌, ◌⊎◌, ℕ, List, [], length, Option, Some};
 ghost use Rattle.lists.specs.Starved.{OrStarved};
 ghost use Rattle.expr.specs.Tokens.{placed_tokens};

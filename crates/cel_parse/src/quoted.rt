@@ -1,3 +1,4 @@
+// Strings with their escapes.
 ghost use Rattle.std.specs.Prelude.{◌≡◌, ◌++◌, ◌<◌, true, IfOk, OnOk};
 ghost use Rattle.std.specs.Char.{is_ascii_hexdigit};
 ghost use Rattle.expr.specs.Tokens.{cut_string, next_byte, short_escape, coded_byte, hex_value, plain};

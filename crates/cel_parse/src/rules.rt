@@ -1,3 +1,4 @@
+// The rules on names and on counts of arguments.
 ghost use Rattle.std.specs.Prelude.{◌≡◌, ◌∷◌, [], OnOk, IfOk, MatchOption, Bool, ℕ, List, Some, None};
 ghost use Rattle.expr.specs.Tokens.{placed_tokens};
 ghost use Rattle.cel_parse.specs.Rules.{without_signs, without_heads, takes, close_no_items, close_no_arguments, word_wanted, minus_wanted, take_wanted, begin_call, take_call, close_round, close_square, next_item, other_branch, operate, operate_if, take_behind, take_callable, take_name, take_token, lesser, rules_in};

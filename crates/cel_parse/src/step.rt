@@ -1,3 +1,4 @@
+// What one token does to the stack.
 ghost use Rattle.std.specs.Prelude.{◌≡◌, ◌∷◌, ◌==◌, List, length, option_map, is_some, IfOk};
 ghost use Rattle.expr.specs.Reading.{Frame as Layer, prefix, square, reduce, deepest, held, over, atom_of, callee_of, method_of, is_in, atom_or_callee, close_empty, minus_sign, step_want, step_enter, asked_of, close_round, close_square, next_item, other_branch, operate, begin_method, method_or_none, tested, step_have, step_dot, step, end_in, unless_asked};
 ghost use Rattle.expr.specs.Tree.{list, more};

@@ -1,3 +1,4 @@
+// Tokens.
 use expr::Operator;
 use lists::Bytes;
 

@@ -1,3 +1,4 @@
+// How many open issues each cell has.
 ghost use Rattle.std.specs.Prelude.{◌≡◌, ◌<◌, [], length, OnOk, OnErr, Some};
 ghost use Rattle.std.specs.List.{list_any};
 ghost use Rattle.kinds.specs.Cells.{has_cell};

@@ -1,3 +1,4 @@
+// The iterator over open issues.
 use kinds::IssueEntry;
 use std::collections::btree_map;
 use std::marker::Model;

@@ -1,3 +1,4 @@
+// The store of open issues and of the cells that they count in.
 ghost use Rattle.std.specs.Prelude.{◌≡◌, [], true, find, None, OnOk, OnErr};
 ghost use Rattle.kinds.specs.Cells.{are_free, is_full, has_issue, without_issue, insert_issue};
 

@@ -1,3 +1,4 @@
+// The iterator over open windows.
 ghost use Rattle.std.specs.Prelude.{◌≡◌};
 
 use crate::held::Held;

@@ -1,3 +1,4 @@
+// The store of open windows.
 ghost use Rattle.std.specs.Prelude.{◌≡◌, ◌≤◌, [], true, find, None, Some, IfOk, IfSome, OnOk, OnErr};
 ghost use Rattle.std.specs.Map.{values_of};
 ghost use Rattle.std.specs.Option.{option_map, option_copied};

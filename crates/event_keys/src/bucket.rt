@@ -1,3 +1,4 @@
+// The bucket of a condition: what a fresh event must have for it to be true.
 ghost use Rattle.std.specs.Prelude.{◌≡◌, IfOk, Some};
 ghost use Rattle.std.specs.Option.{option_copied};
 ghost use Rattle.expr.specs.Trees.{tree_of};

@@ -1,3 +1,4 @@
+// The cells of a run, and that of its throttle.
 ghost use Rattle.std.specs.Prelude.{◌≡◌, IfOk};
 ghost use Rattle.std.specs.Option.{option_copied};
 ghost use Rattle.kinds.specs.Cells.{has_cell, is_cell};

@@ -1,3 +1,4 @@
+// Which conjunct of a condition compares a member of the fresh event.
 ghost use Rattle.std.specs.Prelude.{◌≡◌, IfOk, Some};
 ghost use Rattle.std.specs.Option.{option_map};
 ghost use Rattle.expr.specs.Trees.{tree_of, trees_of};

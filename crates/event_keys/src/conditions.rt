@@ -1,3 +1,4 @@
+// Conditions, keys and priorities over events.
 ghost use Rattle.std.specs.Prelude.{◌≡◌, ◌+◌, IfOk};
 ghost use Rattle.std.specs.Option.{option_copied};
 ghost use Rattle.event_keys.specs.Expressions.{holds_over, holds_over_both, key_value, priority_shift};

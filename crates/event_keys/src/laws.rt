@@ -1,3 +1,4 @@
+// Laws: a bucket hides no event for which its condition is true.
 ghost use Rattle.std.specs.Prelude.{◌≡◌, List, ℕ, Option, Some, true, false};
 ghost use Rattle.kinds.specs.Stores.{Condition, cancelled, is_hidden, woken};
 ghost use Rattle.kinds.specs.declared.event.Event.{Event};

@@ -1,3 +1,4 @@
+// An event's text, read once.
 ghost use Rattle.std.specs.Prelude.{◌≡◌, ◌+◌, IfOk};
 ghost use Rattle.lists.specs.Starved.{OrStarved};
 ghost use Rattle.cel_eval.specs.Cells.{IsInUnits};

@@ -1,3 +1,4 @@
+// The shift of a run by its priority, in whole seconds.
 ghost use Rattle.std.specs.Prelude.{◌≡◌, ◌<◌, ◌^◌};
 ghost use Rattle.event_keys.specs.Expressions.{clamped, whole, with_sign};
 

@@ -1,3 +1,4 @@
+// The iterator over accepted events.
 use crate::EventText;
 use std::collections::btree_map;
 use std::marker::Model;

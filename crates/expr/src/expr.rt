@@ -1,3 +1,4 @@
+// An expression: a text with its tree.
 ghost use Rattle.expr.specs.Reading.{tree_of_text};
 ghost use Rattle.expr.specs.Trees.{tree_of};
 ghost use Rattle.std.specs.Prelude.{◌≡◌, Some, IfOk};

@@ -1,3 +1,4 @@
+// The tree of an expression.
 ghost use Rattle.std.specs.Prelude.{◌≡◌, IfOk};
 ghost use Rattle.expr.specs.Trees.{tree_of, trees_of};
 

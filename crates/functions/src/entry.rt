@@ -1,3 +1,4 @@
+// A current function.
 use kinds::Function;
 use lists::Bytes;
 

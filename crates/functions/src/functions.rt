@@ -1,3 +1,4 @@
+// The store of current functions, and what a registration makes of it.
 ghost use Rattle.std.specs.Prelude.{◌≡◌, ◌+◌, ◌<◌, ◌^◌, ◌++◌, ◌&&◌, [], IfOk, length, filter, map, not, bytes_eq};
 ghost use Rattle.functions.specs.Functions.{current_after, is_again, is_known, is_named, is_new, is_modified, new_beside, new_in, numbered, registered, same, stands_for, stays, version_of};
 ghost use Rattle.std.specs.List.{list_any};

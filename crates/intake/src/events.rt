@@ -1,3 +1,4 @@
+// The events of a request's body.
 ghost use Rattle.std.specs.Prelude.{◌≡◌, [], ◌∷◌};
 ghost use Rattle.json_text.specs.Nodes.{IsNodeOf, items_of, value_at, kind_of};
 ghost use Rattle.json_text.specs.declared.kind.Kind.TheVariants as kind;

@@ -1,3 +1,4 @@
+// Why a request of events is refused.
 ghost use Rattle.std.specs.Prelude.{◌≡◌, Some, IfOk};
 ghost use Rattle.intake.specs.Events.{fault_answer};
 

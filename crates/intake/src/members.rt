@@ -1,3 +1,4 @@
+// The members of an event.
 ghost use Rattle.std.specs.Prelude.{◌≡◌, Some, IfOk, codes, option_map};
 ghost use Rattle.json_text.specs.Nodes.{IsNodeOf, value_at};
 ghost use Rattle.json_text.specs.Text.{member_of};

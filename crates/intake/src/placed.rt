@@ -1,3 +1,4 @@
+// Remembered ids, found by number and by id.
 ghost use Rattle.std.specs.Prelude.{◌≡◌, [], OnOk, OnErr, find, MatchOption, None, Some, true, false};
 ghost use Rattle.std.specs.Option.{option_copied};
 ghost use Rattle.kinds.specs.Seen.{has_id, insert_seen, remembered, is_remembered};

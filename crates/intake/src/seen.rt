@@ -1,3 +1,4 @@
+// The public store of remembered ids.
 ghost use Rattle.std.specs.Prelude.{◌≡◌, ◌<◌, [], length, find, OnOk, OnErr};
 ghost use Rattle.std.specs.Bool.{OnFalse, OnTrue};
 ghost use Rattle.kinds.specs.Seen.{find_seen, note_seen, remembered, weight_of};

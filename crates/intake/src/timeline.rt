@@ -1,3 +1,4 @@
+// Remembered ids in order of number and of moment.
 ghost use Rattle.std.specs.Prelude.{◌≡◌, [], OnOk, OnErr, find, MatchOption, false};
 ghost use Rattle.std.specs.Option.{option_copied};
 ghost use Rattle.kinds.specs.Seen.{insert_seen, remembered, is_remembered};

@@ -1,3 +1,4 @@
+// How long an id is remembered.
 ghost use Rattle.std.specs.Prelude.{◌≡◌, ◌-◌, nat_lt};
 ghost use Rattle.kinds.specs.Seen.{window};
 

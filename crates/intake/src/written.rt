@@ -1,3 +1,4 @@
+// The text that an accepted event goes on as.
 ghost use Rattle.std.specs.Prelude.{◌≡◌, ◌++◌, IfOk, OnOk};
 ghost use Rattle.intake.specs.Events.{event_text, further_member, id_text, ts_text};
 

@@ -1,3 +1,4 @@
+// The journal: opened, created and appended to.
 ghost use Rattle.std.specs.Prelude.{◌≡◌, ◌<◌, ◌≤◌, [], length, IfOk};
 ghost use Rattle.rig.specs.Faults.{CountsDisk};
 ghost use Rattle.rig.specs.Told.{GoesOn, StillTells, WhereTold, reads_of};

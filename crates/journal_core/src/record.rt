@@ -1,3 +1,4 @@
+// One record, put together in room that was taken before.
 ghost use Rattle.std.specs.Prelude.{◌≡◌, ◌≤◌, length};
 ghost use Rattle.journal_core.specs.Records.{spelled, greatest};
 

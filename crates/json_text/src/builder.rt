@@ -1,3 +1,4 @@
+// The nodes of a tree while its text is read.
 ghost use Rattle.std.specs.Prelude.{◌≡◌, List, ℕ, true, false, [], OnOk, IfOk, length};
 ghost use Rattle.json_text.specs.Building.{EndsEntry, Lies, Puts, Opens, Closes, IsOutermost, IsInside, AddsPart};
 ghost use Rattle.json_text.specs.Grammar.{whole, no_parts};

@@ -1,3 +1,4 @@
+// Equality of two values, in near linear time.
 ghost use Rattle.std.specs.Prelude.{◌≡◌, ◌<◌, ◌^◌, ◌++◌, IfOk, OnOk, cond, unsigned_abs};
 ghost use Rattle.json_text.specs.Canonical.{Writes};
 ghost use Rattle.json_text.specs.Same.{compared, number_text};

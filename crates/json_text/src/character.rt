@@ -1,3 +1,4 @@
+// The characters of a string, byte by byte.
 ghost use Rattle.std.specs.Prelude.{◌≡◌};
 ghost use Rattle.json_text.specs.Steps.{next_within, is_unescaped, after_lead, next_if, in_range, is_hex, is_d, is_short, is_low_digit, is_high_digit};
 ghost use Rattle.json_text.specs.declared.character.Within.TheVariants as at;

@@ -1,3 +1,4 @@
+// Why bytes are no JSON text, and where.
 use lists::Memory;
 use std::alloc::{AllocError, AllocFailed};
 use std::fmt;

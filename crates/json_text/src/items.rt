@@ -1,3 +1,4 @@
+// The iterator over the items of a list.
 use crate::{Node, Tree};
 use std::marker::Model;
 

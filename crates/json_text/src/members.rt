@@ -1,3 +1,4 @@
+// The iterator over the members of an object.
 use crate::{Node, Tree};
 use std::marker::Model;
 

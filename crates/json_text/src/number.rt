@@ -1,3 +1,4 @@
+// The parts of a number, byte by byte.
 ghost use Rattle.std.specs.Prelude.{◌≡◌, cond};
 ghost use Rattle.json_text.specs.Bytes.{is_digit, is_exponent_mark, is_sign};
 ghost use Rattle.json_text.specs.Automaton.{next_stage, may_end, from_minus, from_whole};

@@ -1,3 +1,4 @@
+// Strings without escapes.
 ghost use Rattle.std.specs.Prelude.{◌≡◌, IfSome, option_map};
 ghost use Rattle.json_text.specs.Plain.{is_no_escape, is_plain, plain_inside};
 ghost use Rattle.json_text.specs.Text.{inside, unescaped};

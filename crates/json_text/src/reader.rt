@@ -1,3 +1,4 @@
+// The reader of a text, byte by byte.
 ghost use Rattle.std.specs.Prelude.{◌≡◌};
 ghost use Rattle.json_text.specs.Reading.{Begins};
 ghost use Rattle.json_text.specs.declared.fault.JsonFault.TheVariants as fault;

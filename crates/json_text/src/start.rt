@@ -1,3 +1,4 @@
+// Where a node begins in its source.
 ghost use Rattle.std.specs.Prelude.{◌≡◌, drop};
 ghost use Rattle.json_text.specs.Starts.{is_between, skipped};
 

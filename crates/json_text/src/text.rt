@@ -1,3 +1,4 @@
+// What a string stands for, its escapes undone.
 ghost use Rattle.std.specs.Prelude.{◌≡◌, ◌++◌, List, ℕ, [], ◌∷◌, ◌<◌, OnOk, OnErr, IfOk, IfSome, bytes_eq, option_map, IsUtf8};
 ghost use Rattle.json_text.specs.Grammar.{IsJson};
 ghost use Rattle.json_text.specs.Grammar as json;

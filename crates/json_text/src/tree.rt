@@ -1,3 +1,4 @@
+// The tree of a text: the public calls.
 ghost use Rattle.std.specs.Prelude.{◌≡◌, ◌≤◌, Some, if◌then◌else◌, length, slice_range};
 ghost use Rattle.json_text.specs.Same.{known};
 

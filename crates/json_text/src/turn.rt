@@ -1,3 +1,4 @@
+// Which part of a list or an object is to come.
 ghost use Rattle.std.specs.Prelude.{◌≡◌};
 ghost use Rattle.json_text.specs.Bytes.{is_space};
 ghost use Rattle.json_text.specs.Entries.{turn_of};

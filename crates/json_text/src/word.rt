@@ -1,3 +1,4 @@
+// The words `null`, `true` and `false`.
 ghost use Rattle.std.specs.Prelude.{◌≡◌, ◌∷◌, [], MatchOption};
 ghost use Rattle.json_text.specs.Steps.{rest_of, word_value, first_of};
 ghost use Rattle.json_text.specs.Nodes.{kind_of};

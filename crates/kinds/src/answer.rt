@@ -1,3 +1,4 @@
+// The bodies of answers.
 ghost use Rattle.std.specs.Prelude.{◌≡◌, ◌++◌, ◌∷◌, [], codes, IfOk, OnOk, if◌then◌else◌, ◌==◌, length};
 ghost use Rattle.kinds.specs.Answer.{ids_answer, error_answer, error_begun, error_ended, function_error_answer, function_member, quoted_id};
 

@@ -1,3 +1,4 @@
+// Cells that limits count in, and what is kept of them.
 use lists::{Bytes, Items};
 
 /// What a limit counts for: a function, an environment or an account, and the value of the limit's key.

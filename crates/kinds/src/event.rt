@@ -1,3 +1,4 @@
+// Events, as they come and as they are matched.
 use lists::Bytes;
 
 /// An event as a request gives it. Each part but the name and the id is the member's own text in the

@@ -1,3 +1,4 @@
+// Applications and their functions.
 use expr::Expr;
 use lists::{Bytes, Items};
 

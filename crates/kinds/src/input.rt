@@ -1,3 +1,4 @@
+// The inputs of the machine.
 ghost use Rattle.std.specs.Prelude.{◌≡◌};
 ghost use Rattle.kinds.specs.Inputs.{reading};
 

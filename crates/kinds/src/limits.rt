@@ -1,3 +1,4 @@
+// How much a server keeps.
 ghost use Rattle.std.specs.Prelude.{◌≡◌};
 ghost use Rattle.kinds.specs.Limits.{shipped};
 

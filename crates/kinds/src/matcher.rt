@@ -1,3 +1,4 @@
+// Who can tell whether conditions are true.
 ghost use Rattle.std.specs.Prelude.{◌≡◌, ◌+◌, ℕ, List, Bool, IfOk, Option};
 ghost use Rattle.kinds.specs.declared.event.Event.{Event};
 

@@ -1,3 +1,4 @@
+// What a step says to the outside.
 use crate::Numbers;
 use lists::Bytes;
 

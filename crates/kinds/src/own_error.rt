@@ -1,3 +1,4 @@
+// The error object of the server's own errors.
 ghost use Rattle.std.specs.Prelude.{◌≡◌, IfOk};
 ghost use Rattle.kinds.specs.ErrorObject.{error_object};
 

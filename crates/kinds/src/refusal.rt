@@ -1,3 +1,4 @@
+// Why the machine turns an input away.
 ghost use Rattle.std.specs.Prelude.{◌≡◌, IfOk};
 ghost use Rattle.kinds.specs.Refusal.{refusal_answer};
 

@@ -1,3 +1,4 @@
+// Replies of applications, and what they mean.
 use crate::StepHash;
 use expr::Expr;
 use lists::{Bytes, Items};

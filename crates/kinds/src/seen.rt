@@ -1,3 +1,4 @@
+// A remembered event id.
 use lists::Bytes;
 
 /// An event id that was accepted: the event's number, and when it was accepted, in milliseconds

@@ -1,3 +1,4 @@
+// The names of steps.
 ghost use Rattle.std.specs.Prelude.{◌≡◌};
 
 use std::cmp::Ordering;

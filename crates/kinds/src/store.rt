@@ -1,3 +1,4 @@
+// The entries of the machine's stores.
 use crate::{Cell, CellLimits, Numbers, StepHash};
 use expr::Expr;
 use lists::{Bytes, Items};

@@ -1,3 +1,4 @@
+// Windows of events: debounces and batches.
 use crate::{Batch, Debounce, Numbers};
 use lists::Bytes;
 

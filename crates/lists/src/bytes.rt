@@ -1,3 +1,4 @@
+// Byte strings.
 ghost use Rattle.std.specs.Prelude.{◌≡◌, ◌++◌, ◌∷◌, [], length, IfOk, OnOk, OnErr, ◌==◌, decimal};
 
 use crate::Memory;

@@ -1,3 +1,4 @@
+// Lists of anything.
 ghost use Rattle.std.specs.Prelude.{◌≡◌, ◌++◌, ◌∷◌, [], length, IfOk, OnOk, OnErr, ◌==◌, slice_get};
 ghost use Rattle.std.specs.Option.{option_copied};
 

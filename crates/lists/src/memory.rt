@@ -1,3 +1,4 @@
+// Want of memory.
 use std::alloc::{AllocError, AllocFailed};
 
 /// No memory was to be had. No contract says when this comes, and each exact promise yields to it.

@@ -1,3 +1,4 @@
+// The numbers that were given so far.
 ghost use Rattle.std.specs.Prelude.{◌≡◌, ◌≤◌, ◌+◌, ◌^◌, max, IfOk, OnErr, OnOk};
 ghost use Rattle.machine.specs.Counts.{greatest_of, none};
 

@@ -1,3 +1,4 @@
+// What a step touched, so that it may go at the step's end.
 ghost use Rattle.std.specs.Prelude.{◌≡◌, OnOk};
 ghost use Rattle.machine.specs.Numbers.{AreJoined, IsTouched, nothing};
 

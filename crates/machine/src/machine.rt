@@ -1,3 +1,4 @@
+// The machine between two inputs: what it refuses, and its views.
 ghost use Rattle.std.specs.Prelude.{◌≡◌, IfOk, MatchResult, None, Some};
 ghost use Rattle.run_model.specs.Machine.{refusal, refusal_of_call, refusal_of_cancel, refusal_of_events, refusal_of_registration};
 ghost use Rattle.run_model.specs.State.{empty, greatest, kept, live, live_run, open_issue};

@@ -1,3 +1,4 @@
+// Sets of numbers.
 ghost use Rattle.std.specs.Prelude.{◌≡◌, [], OnOk};
 ghost use Rattle.std.specs.List.{slice_get};
 ghost use Rattle.machine.specs.Numbers.{AreJoined, IsJoined, IsJoinedBy, IsRest};

@@ -1,3 +1,4 @@
+// What a machine is made of.
 use crate::counts::Counts;
 use crate::loose::Loose;
 use crate::numbers::NumberSet;

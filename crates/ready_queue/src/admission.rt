@@ -1,3 +1,4 @@
+// The gate of a server: cells and throttles.
 ghost use Rattle.std.specs.Prelude.{◌≡◌, ◌≤◌};
 ghost use Rattle.std.specs.Option.{option_copied};
 ghost use Rattle.kinds.specs.Cells.{IsStart, last_moment, may_start};

@@ -1,3 +1,4 @@
+// Items on the heap, and maps of them.
 ghost use Rattle.std.specs.Prelude.{◌≡◌, IfOk, OnOk, OnErr};
 ghost use Rattle.std.specs.BTreeMap.{IsOrdered, get_by, insert_entry, is_at};
 ghost use Rattle.std.specs.Map.{remove_entry};

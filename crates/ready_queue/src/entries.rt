@@ -1,3 +1,4 @@
+// The iterator over queued items.
 use crate::boxed::BoxedItem;
 use kinds::Item;
 use std::collections::btree_map;

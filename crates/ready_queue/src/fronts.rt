@@ -1,3 +1,4 @@
+// The groups in order of what comes first of each.
 ghost use Rattle.std.specs.Prelude.{◌≡◌, [], length, OnOk, OnErr, Some, None};
 ghost use Rattle.std.specs.BTreeMap.{insert_entry, is_at};
 ghost use Rattle.std.specs.Map.{remove_entry};

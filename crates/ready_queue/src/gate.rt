@@ -1,3 +1,4 @@
+// Who can tell whether items may be issued.
 ghost use Rattle.std.specs.Prelude.{◌≡◌, ◌+◌, ◌≤◌, ℕ, List, Bool, Option};
 ghost use Rattle.std.specs.Option.{option_copied};
 ghost use Rattle.kinds.specs.Cells.{IsStart, last_moment};

@@ -1,3 +1,4 @@
+// The keys of items by group, and which groups are looked at.
 ghost use Rattle.std.specs.Prelude.{◌≡◌, ◌+◌, ◌≤◌, ℕ, List, ◌⊎◌, [], length, true, false, None};
 ghost use Rattle.std.specs.Prelude.{OnOk, OnErr, IfSome};
 ghost use Rattle.std.specs.Option.{IfNone};

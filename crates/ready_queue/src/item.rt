@@ -1,3 +1,4 @@
+// Items compared, and the groups that they are of.
 ghost use Rattle.std.specs.Prelude.{◌≡◌, ◌≤◌, nat_le, ◌&&◌, IfOk};
 ghost use Rattle.std.specs.BTreeMap.{values};
 ghost use Rattle.std.specs.Ordering.{is_lt};

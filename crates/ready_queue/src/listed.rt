@@ -1,3 +1,4 @@
+// Queued items, found by run too.
 ghost use Rattle.std.specs.Prelude.{◌≡◌, ◌⊎◌, ◌+◌, ◌≤◌, [], length, find, None, OnOk, OnErr, IfSome};
 ghost use Rattle.std.specs.Option.{option_copied, IfNone};
 ghost use Rattle.kinds.specs.Cells.{IsStart, last_moment};

@@ -1,3 +1,4 @@
+// When one item may next be issued.
 ghost use Rattle.std.specs.Prelude.{◌≡◌};
 ghost use Rattle.kinds.specs.Cells.{IsStart};
 ghost use Rattle.kinds.specs.Queue.{moment_of, sooner};

@@ -1,3 +1,4 @@
+// Queued items: those that are due in groups, and those that are to come.
 ghost use Rattle.std.specs.Prelude.{◌≡◌, ◌⊎◌, ◌+◌, ◌≤◌, ◌<◌, IfSome, [], length, find, None};
 ghost use Rattle.std.specs.Prelude.{OnOk, OnErr, IfOk, true, false};
 ghost use Rattle.std.specs.Bool.{OnTrue, OnFalse};

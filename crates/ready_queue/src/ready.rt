@@ -1,3 +1,4 @@
+// The groups of items that are due, each under a number.
 ghost use Rattle.std.specs.Prelude.{◌≡◌, ◌⊎◌, ◌≤◌, ℕ, Some, None, true, false};
 ghost use Rattle.std.specs.Prelude.{OnOk, OnErr, IfOk, IfSome, length};
 ghost use Rattle.std.specs.Option.{IfNone};

@@ -1,3 +1,4 @@
+// The least admissible item, where all items are looked at.
 ghost use Rattle.std.specs.Prelude.{◌≡◌, ◌+◌, ◌≤◌, length, filter, ◌&&◌};
 ghost use Rattle.std.specs.BTreeMap.{values};
 ghost use Rattle.std.specs.Bool.{OnTrue, OnFalse};

@@ -1,3 +1,4 @@
+// Where the calls of a function go.
 use lists::Bytes;
 
 /// Where the calls of a function go.

@@ -1,3 +1,4 @@
+// Members that are expressions or durations.
 ghost use Rattle.lists.specs.Starved.{OrStarved};
 ghost use Rattle.std.specs.Prelude.{◌≡◌};
 ghost use Rattle.serde_json.specs.View.{view};

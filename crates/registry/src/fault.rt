@@ -1,3 +1,4 @@
+// Why a registration is refused.
 ghost use Rattle.std.specs.Prelude.{◌≡◌, Some, IfOk};
 ghost use Rattle.registry.specs.Answers.{fault_answer, refused_in};
 

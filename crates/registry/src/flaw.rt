@@ -1,3 +1,4 @@
+// What is wrong with one member.
 ghost use Rattle.std.specs.Prelude.{◌≡◌};
 ghost use Rattle.registry.specs.Expressions.{bad_expression};
 ghost use Rattle.registry.specs.Faults.{blame, blamed};

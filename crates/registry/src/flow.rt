@@ -1,3 +1,4 @@
+// How the runs of a function are limited, gathered and cancelled.
 ghost use Rattle.lists.specs.Starved.{OrStarved};
 ghost use Rattle.std.specs.Prelude.{◌≡◌};
 ghost use Rattle.serde_json.specs.View.{view};

@@ -1,3 +1,4 @@
+// One function of a registration.
 ghost use Rattle.lists.specs.Starved.{OrStarved};
 ghost use Rattle.std.specs.Prelude.{◌≡◌};
 ghost use Rattle.std.specs.List.{list_all};

@@ -1,3 +1,4 @@
+// Concurrency limits.
 ghost use Rattle.lists.specs.Starved.{OrStarved};
 ghost use Rattle.std.specs.Prelude.{◌≡◌, ◌++◌, IfOk, OnOk, codes, option_to_list};
 ghost use Rattle.serde_json.specs.View.{items_view, view};

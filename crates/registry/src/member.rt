@@ -1,3 +1,4 @@
+// The members of a function by name.
 ghost use Rattle.std.specs.Prelude.{◌≡◌};
 ghost use Rattle.registry.specs.Faults.{member_name};
 

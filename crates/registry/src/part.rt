@@ -1,3 +1,4 @@
+// Members of a value, by the kind that they have to be of.
 ghost use Rattle.std.specs.Prelude.{◌≡◌, ◌≤◌, option_map, IfSome};
 ghost use Rattle.serde_json.specs.View.{items_view, view};
 ghost use Rattle.registry.specs.Members.{array_in, first_present, has_count, part, text_in, whole, whole_in};

@@ -1,3 +1,4 @@
+// The URL and the retries of a function.
 ghost use Rattle.lists.specs.Starved.{OrStarved};
 ghost use Rattle.std.specs.Prelude.{◌≡◌, IfOk, None, option_map};
 ghost use Rattle.serde_json.specs.View.{view};

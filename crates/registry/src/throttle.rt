@@ -1,3 +1,4 @@
+// Throttles.
 ghost use Rattle.lists.specs.Starved.{OrStarved};
 ghost use Rattle.std.specs.Prelude.{◌≡◌, ◌≤◌, codes, IfOk};
 ghost use Rattle.serde_json.specs.View.{view};

@@ -1,3 +1,4 @@
+// Debounces and batches.
 ghost use Rattle.lists.specs.Starved.{OrStarved};
 ghost use Rattle.serde_json.specs.View.{view};
 ghost use Rattle.registry.specs.Flows.{batch_in, batch_of, debounce_in, debounce_of};

@@ -1,3 +1,4 @@
+// Standard input and output as a source and a sink.
 use rig::{ReadFailed, Sink, Source, WriteFailed, next_count};
 use std::io::{Read, Write};
 

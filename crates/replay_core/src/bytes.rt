@@ -1,3 +1,4 @@
+// The place of a byte in a text.
 ghost use Rattle.std.specs.Prelude.{◌≡◌, ◌==◌, position};
 
 /// The first place of a byte in a text.

@@ -1,3 +1,4 @@
+// A request of events, to an input or an answer.
 ghost use Rattle.std.specs.Prelude.{◌≡◌, IfOk, Some};
 ghost use Rattle.intake.specs.Events.{events_in_body};
 ghost use Rattle.requests.specs.Requests.{events_request, requested_events};

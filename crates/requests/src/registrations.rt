@@ -1,3 +1,4 @@
+// A registration, to an input or an answer.
 ghost use Rattle.std.specs.Prelude.{◌≡◌, Some, IfOk};
 ghost use Rattle.requests.specs.Requests.{register_request};
 

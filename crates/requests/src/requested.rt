@@ -1,3 +1,4 @@
+// What a request comes to.
 use kinds::{Input, Out};
 
 /// What a request comes to.

@@ -1,3 +1,4 @@
+// What a rig records of the network.
 use lists::Bytes;
 
 /// What came of one look at the network.

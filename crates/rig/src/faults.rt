@@ -1,3 +1,4 @@
+// Calls that are set to fail, and counts of faults.
 ghost use Rattle.std.specs.Prelude.{◌≡◌};
 ghost use Rattle.rig.specs.Faults.{one_more};
 

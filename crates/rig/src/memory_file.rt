@@ -1,3 +1,4 @@
+// A file in memory, and what a crash leaves of it.
 ghost use Rattle.std.specs.Prelude.{◌≡◌, ◌+◌, ◌≤◌, ◌<◌, ℕ, IfOk, OnOk, OnErr, length, take, drop, vec_len};
 ghost use Rattle.rig.specs.Disk.{overwritten};
 ghost use Rattle.rig.specs.MemoryFile.{settled_file, wrote, was_cut, undo, undone, put_at, halved, image_of, IsKept};

@@ -1,3 +1,4 @@
+// The rig in memory.
 ghost use Rattle.std.specs.Prelude.{◌≡◌, ◌≢◌, ◌≤◌, ◌<◌, ◌+◌, ◌-◌, ◌==◌, [], false, Some};
 ghost use Rattle.std.specs.Prelude.{IfOk, OnOk, OnErr, find, length, take, drop, min};
 ghost use Rattle.rig.specs.Disk.{IsSoundDisk};

@@ -1,3 +1,4 @@
+// The sink in memory.
 ghost use Rattle.std.specs.Prelude.{◌≡◌, ◌==◌, find, OnOk, OnErr};
 ghost use Rattle.rig.specs.MemorySink.{MemorySink, blank_sink, outgoing_of, with_failing, starving, Sinks};
 ghost use Rattle.rig.specs.Written.{PutsOut};

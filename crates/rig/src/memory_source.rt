@@ -1,3 +1,4 @@
+// The source in memory.
 ghost use Rattle.std.specs.Prelude.{◌≡◌, ◌<◌, length, take, min, IfOk, OnOk, OnErr};
 ghost use Rattle.rig.specs.Flow.{TakesIn};
 ghost use Rattle.rig.specs.MemorySource.{MemorySource, source_of, incoming_of, with_failing, read_answer, after_read};

@@ -1,3 +1,4 @@
+// The disk, the network and the clock, as a trait.
 ghost use Rattle.std.specs.Prelude.{◌≡◌, ◌<◌, ◌≤◌, ◌+◌, length, IfOk, OnOk};
 ghost use Rattle.rig.specs.Disk.{IsSoundDisk};
 ghost use Rattle.rig.specs.Faults.{Counts, CountsDisk};

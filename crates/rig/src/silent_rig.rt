@@ -1,3 +1,4 @@
+// A rig that tells its counts alone.
 ghost use Rattle.std.specs.Prelude.{◌≡◌, false};
 ghost use Rattle.rig.specs.MemoryRig.{MemoryRig, IsSteady};
 ghost use Rattle.rig.specs.SilentRig.{tells_nothing, silent_one_now, silent_sound};

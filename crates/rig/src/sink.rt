@@ -1,3 +1,4 @@
+// Where bytes go out, as a trait.
 ghost use Rattle.rig.specs.Written.{Outgoing, PutsOut};
 
 use std::fmt;

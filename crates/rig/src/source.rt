@@ -1,3 +1,4 @@
+// Where bytes come in, as a trait.
 ghost use Rattle.rig.specs.Flow.{Incoming, TakesIn};
 
 use std::fmt;

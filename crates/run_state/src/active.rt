@@ -1,3 +1,4 @@
+// A run that has begun and isn't over.
 ghost use Rattle.std.specs.Prelude.{◌≡◌, ◌≤◌, ◌+◌, ◌<◌, true, false, OnOk, OnErr, is_some, length};
 ghost use Rattle.std.specs.Prelude.{nat_le};
 ghost use Rattle.std.specs.Option.{option_map};

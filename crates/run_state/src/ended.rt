@@ -1,3 +1,4 @@
+// A run that is over.
 use kinds::RunStatus;
 
 /// How a run ended. It keeps nothing of the run, and nothing can be recorded in it.

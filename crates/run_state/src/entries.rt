@@ -1,3 +1,4 @@
+// The iterator over recorded steps.
 ghost use Rattle.std.specs.Prelude.{◌≡◌};
 
 use kinds::StepEntry;

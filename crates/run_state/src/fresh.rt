@@ -1,3 +1,4 @@
+// A run that hasn't begun.
 ghost use Rattle.std.specs.Prelude.{◌≡◌};
 ghost use Rattle.kinds.specs.RunSteps.{no_steps};
 ghost use Rattle.run_state.specs.declared.ended.Ended.TheVariants.{Cancelled};

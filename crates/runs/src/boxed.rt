@@ -1,3 +1,4 @@
+// A run on the heap.
 ghost use Rattle.std.specs.Prelude.{◌≡◌, true, IfOk, OnOk, OnErr};
 ghost use Rattle.kinds.specs.RunSteps.{is_pending};
 ghost use Rattle.runs.specs.Changes.{IsNoted, want, called, with_result, with_plan, with_pending};

@@ -1,3 +1,4 @@
+// The steps of a run on the heap.
 ghost use Rattle.std.specs.Prelude.{◌≡◌, true, IfOk, OnOk, OnErr, length, nat_le};
 ghost use Rattle.std.specs.Option.{option_map};
 ghost use Rattle.kinds.specs.RunSteps.{no_steps, is_recorded, is_pending, result_of, keep_step};

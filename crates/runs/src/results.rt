@@ -1,3 +1,4 @@
+// Results that the server makes of errors.
 ghost use Rattle.std.specs.Prelude.{◌≡◌, IfOk};
 ghost use Rattle.runs.specs.Changes.{error_result, state_too_large};
 

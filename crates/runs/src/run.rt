@@ -1,3 +1,4 @@
+// One run, and what it is made with.
 ghost use Rattle.std.specs.Prelude.{◌≡◌, IfOk, OnOk, OnErr, length, nat_le, true, false};
 ghost use Rattle.std.specs.Option.{option_map, option_copied};
 ghost use Rattle.kinds.specs.RunSteps.{is_recorded, is_pending, result_of};

@@ -1,3 +1,4 @@
+// The public store of runs.
 ghost use Rattle.std.specs.Prelude.{◌≡◌, ◌<◌, [], map, filter, length, cond, IfOk, OnOk, OnErr};
 ghost use Rattle.std.specs.Prelude.{◌++◌, ◌∷◌};
 ghost use Rattle.std.specs.List.{AllByRecursion};

@@ -1,3 +1,4 @@
+// The path and the body of a call.
 ghost use Rattle.std.specs.Prelude.{◌≡◌, ◌++◌, ◌∷◌, [], IfOk, OnOk, codes, map, ◌==◌, if◌then◌else◌};
 ghost use Rattle.sdk_call.specs.Body.{body_of, context, first_of, parted, path_of, step_member};
 

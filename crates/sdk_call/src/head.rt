@@ -1,3 +1,4 @@
+// The head of a call.
 ghost use Rattle.std.specs.Prelude.{◌≡◌, ◌++◌, IfOk, OnOk, codes};
 ghost use Rattle.sdk_call.specs.Head.{head, held, host_line, signature_line};
 

@@ -1,3 +1,4 @@
+// What a call is made of.
 use kinds::{Function, StepEntry};
 use lists::Bytes;
 

@@ -1,3 +1,4 @@
+// The query of a call.
 ghost use Rattle.std.specs.Prelude.{◌≡◌, ◌++◌, ◌≤◌, ◌<◌, ◌+◌, ◌∷◌, [], IfOk, OnOk, length, filter, if◌then◌else◌};
 ghost use Rattle.std.specs.Option.{option_map};
 ghost use Rattle.sdk_call.specs.Query.{until, cut_at, pieces, is_kept, call_query, ended, pieces_left, bytes_left, behind_first};

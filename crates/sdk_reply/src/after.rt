@@ -1,3 +1,4 @@
+// The field that says when to try again.
 ghost use Rattle.std.specs.Prelude.{◌≡◌};
 ghost use Rattle.sdk_reply.specs.After.{after_date, after_http, after_text};
 ghost use Rattle.sdk_reply.specs.Dates.{date_moment, http_moment, millis};

@@ -1,3 +1,4 @@
+// Conditions of waits.
 ghost use Rattle.std.specs.Prelude.{◌≡◌, IfOk, IfSome, option_map};
 ghost use Rattle.cel_parse.specs.Faults.{parse_text};
 ghost use Rattle.json_text.specs.Nodes.{IsNodeOf, kind_of, value_at};

@@ -1,3 +1,4 @@
+// How long a failed call waits.
 ghost use Rattle.std.specs.Prelude.{◌≡◌};
 ghost use Rattle.sdk_reply.specs.Delay.{delay, delay_of_attempt};
 

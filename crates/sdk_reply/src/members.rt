@@ -1,3 +1,4 @@
+// Members of an operation, by the kind that they have to be of.
 ghost use Rattle.std.specs.Prelude.{◌≡◌, IfOk, IfSome, Some, codes, option_map, true};
 ghost use Rattle.json_text.specs.Nodes.{IsNodeOf, kind_of, value_at};
 ghost use Rattle.json_text.specs.Text.{inside, member_of, text_of, unescaped};

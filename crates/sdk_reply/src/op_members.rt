@@ -1,3 +1,4 @@
+// The members of an operation, found in one pass.
 ghost use Rattle.std.specs.Prelude.{◌≡◌};
 ghost use Rattle.json_text.specs.Plain.{is_no_escape, is_plain};
 

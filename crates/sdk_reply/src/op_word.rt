@@ -1,3 +1,4 @@
+// The kinds of operations by name.
 ghost use Rattle.std.specs.Prelude.{◌≡◌, IfOk};
 ghost use Rattle.json_text.specs.Nodes.{IsNodeOf, kind_of, value_at};
 ghost use Rattle.json_text.specs.Text.{text_of};

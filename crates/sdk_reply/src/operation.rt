@@ -1,3 +1,4 @@
+// One operation.
 ghost use Rattle.std.specs.Prelude.{◌≡◌, IfOk, IfSome, option_map, true};
 ghost use Rattle.json_text.specs.Nodes.{IsNodeOf, value_at};
 ghost use Rattle.step_ids.specs.Step.{is_step_name};

@@ -1,3 +1,4 @@
+// A list of operations.
 ghost use Rattle.std.specs.Prelude.{◌≡◌};
 ghost use Rattle.lists.specs.Starved.{OrStarved};
 ghost use Rattle.json_text.specs.Nodes.{IsNodeOf, item_nodes};

@@ -1,3 +1,4 @@
+// The public call: what a reply means.
 ghost use Rattle.std.specs.Prelude.{◌≡◌, IfOk};
 ghost use Rattle.sdk_reply.specs.After.{after_field};
 ghost use Rattle.json_text.specs.Nodes.{IsNodeOf};

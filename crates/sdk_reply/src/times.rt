@@ -1,3 +1,4 @@
+// Durations and dates of operations.
 ghost use Rattle.std.specs.Prelude.{◌≡◌, IfOk, IfSome, option_map};
 ghost use Rattle.json_text.specs.Nodes.{IsNodeOf, kind_of, value_at};
 ghost use Rattle.json_text.specs.Text.{text_of};

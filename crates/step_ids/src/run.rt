@@ -1,3 +1,4 @@
+// The ids of runs.
 ghost use Rattle.std.specs.Prelude.{◌≡◌, ℕ, ◌^◌, ◌<◌, Some, IfSome};
 ghost use Rattle.step_ids.specs.Run.{run_text, run_value, run_of_halves, run_of_text, uuid_value, IsRun, AreDistinct};
 ghost use Rattle.std.specs.Int.{w128, to_be_bytes};

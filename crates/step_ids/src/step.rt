@@ -1,3 +1,4 @@
+// The names of steps.
 ghost use Rattle.std.specs.Prelude.{◌≡◌, true};
 ghost use Rattle.std.specs.List.{list_all};
 ghost use Rattle.sha1.specs.Sha1.{sha1};

@@ -1,3 +1,4 @@
+// Whole numbers.
 ghost use Rattle.std.specs.Prelude.{◌≡◌, ◌≤◌, ◌<◌, ◌^◌, ◌==◌, min, true, option_map, slice_index, length};
 ghost use Rattle.text_num.specs.Digits.{decimal_value, all_digits, is_number, u64_of, digits_front, behind_digits, fraction_of};
 

@@ -1,3 +1,4 @@
+// Durations.
 ghost use Rattle.std.specs.Prelude.{◌≡◌, ◌≤◌, ◌⊎◌, ◌+◌, List, length, true, min, option_map, Err};
 ghost use Rattle.text_num.specs.Digits.{is_number, all_digits, at_most};
 ghost use Rattle.text_num.specs.Duration.{Part, IsDuration, part_millis, parts_millis, unit_millis, unit_of_letter, is_milli, unit_of, part_of, capped_part, duration_of, longest};

@@ -1,3 +1,4 @@
+// Why a text gives no number.
 use std::fmt;
 
 /// Why a text gives no number.

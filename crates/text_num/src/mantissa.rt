@@ -1,3 +1,4 @@
+// Digits as a number and its trailing zeros.
 ghost use Rattle.std.specs.Prelude.{◌≡◌, ◌≤◌, ◌<◌, ◌+◌, ◌-◌, ◌*◌, ◌^◌, ℕ, length, true, Some, None, IfSome, nat_lt, if◌then◌else◌};
 ghost use Rattle.text_num.specs.Digits.{decimal_value, all_digits};
 ghost use Rattle.text_num.specs.Mantissa.{IsMantissa, IsReading};

@@ -1,3 +1,4 @@
+// The parts of a JSON number.
 ghost use Rattle.std.specs.Prelude.{◌≡◌, ◌<◌, ◌≤◌, length, option_map, IfSome, true, slice_index};
 ghost use Rattle.text_num.specs.Digits.{all_digits};
 ghost use Rattle.text_num.specs.Seen.{number_seen};

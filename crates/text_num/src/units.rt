@@ -1,3 +1,4 @@
+// JSON numbers in units of 10^-18, read and written.
 ghost use Rattle.std.specs.Prelude.{◌≡◌, ◌⊎◌, ◌<◌, ◌≤◌, ◌^◌, ◌++◌, ◌+◌, ◌==◌, slice_index, ℕ, ℤ, List, [], length, take, drop, unsigned_abs, IfOk, Ok, Err, true, decimal};
 ghost use Rattle.text_num.specs.Seen.{number_seen};
 ghost use Rattle.std.specs.Int.{is_negative};

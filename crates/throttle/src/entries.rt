@@ -1,3 +1,4 @@
+// The iterator over the starts of throttles.
 use crate::places::Place;
 use kinds::{Cell, StartEntry};
 use std::collections::{BTreeMap, btree_map};

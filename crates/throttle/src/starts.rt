@@ -1,3 +1,4 @@
+// The store of the starts of throttles.
 ghost use Rattle.std.specs.Prelude.{◌≡◌, ◌<◌, ◌≤◌, ℕ, [], true, false, find, length, None, OnOk, OnErr, nat_le};
 ghost use Rattle.kinds.specs.Cells.{IsThrottle, last_moment, spacing, slack, has_start, greatest_at, is_allowed, release_moment, after_start, later_starts};
 ghost use Rattle.throttle.specs.Inequality.{FollowsInequality, StandsForOneMore, put_greatest};

@@ -1,3 +1,4 @@
+// How a program ends.
 ghost use Rattle.std.specs.Prelude.{◌≡◌};
 ghost use Rattle.top.specs.Outcome.{number_of, status_of};
 

@@ -1,3 +1,4 @@
+// Why words weren't read.
 use clap::Error;
 use clap::error::ErrorKind;
 use std::alloc::AllocError;

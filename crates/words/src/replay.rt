@@ -1,3 +1,4 @@
+// The words of `replay`.
 ghost use Rattle.std.specs.Prelude.{◌≡◌, ◌≤◌, IfOk, IfSome};
 ghost use Rattle.clap.specs.Words.{app_of};
 ghost use Rattle.words.specs.Reading.{IsRead};
