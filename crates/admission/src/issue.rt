@@ -5,7 +5,9 @@ use kinds::Item;
 /// make it again.
 #[derive(Drop)]
 pub struct Issue {
+    /// The call's number.
     pub call: u64,
+    /// What the call was made for.
     pub item: Item,
     /// The number of its limit.
     pub limit: u64,
@@ -17,7 +19,10 @@ pub struct Issue {
 /// and the call.
 #[derive(Clone, Copy, Debug, PartialEq, Eq)]
 pub struct CallLimit {
+    /// In milliseconds since 1970.
     pub due: u64,
+    /// The limit's number.
     pub number: u64,
+    /// The call's number.
     pub call: u64,
 }

@@ -6,10 +6,13 @@ use ordered::{OfRun, Ranked};
 /// A step of a run that sleeps until a moment, in milliseconds since 1970.
 #[derive(Clone, Copy, Debug, PartialEq, Eq)]
 pub struct Sleep {
+    /// The entry's number.
     pub number: u64,
+    /// The run that sleeps.
     pub run: u64,
     /// The step's name.
     pub hash: StepHash,
+    /// When it wakes, in milliseconds since 1970.
     pub due: u64,
 }
 
@@ -18,9 +21,11 @@ pub struct Sleep {
 pub struct WaitStep {
     /// The wait's number.
     pub number: u64,
+    /// The run that waits.
     pub run: u64,
     /// The step's name.
     pub hash: StepHash,
+    /// When the wait ends, in milliseconds since 1970.
     pub due: u64,
 }
 
@@ -28,12 +33,15 @@ pub struct WaitStep {
 /// one, in milliseconds since 1970.
 #[derive(Clone, Copy, Debug, PartialEq, Eq)]
 pub struct Invocation {
+    /// The entry's number.
     pub number: u64,
+    /// The run that waits.
     pub run: u64,
     /// The step's name.
     pub hash: StepHash,
     /// The run that is waited for.
     pub child: u64,
+    /// When it waits no longer, in milliseconds since 1970.
     pub due: Option<u64>,
 }
 

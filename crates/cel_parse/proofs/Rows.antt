@@ -1,3 +1,4 @@
+-- Examples: how texts are cut into tokens and read as trees.
 use Rattle.std.proofs.Common.{◌≡◌, true, refl, List, [], ◌∷◌, ◌++◌, Option, Some, None, codes, ℕ}
 use Rattle.std.specs.Prelude.{pos, replicate}
 use Rattle.text_num.specs.Digits.{fraction_of}

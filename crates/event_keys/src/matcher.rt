@@ -25,8 +25,11 @@ pub trait EventTexts {
 /// first event whose text isn't there.
 #[derive(Drop)]
 pub struct FreshMatcher<'a, T: EventTexts> {
+    /// Where memory comes from.
     pub alloc: Global,
+    /// The texts of accepted events, by number.
     pub texts: &'a T,
+    /// The event that conditions are matched with.
     pub fresh: &'a ReadEvent<'a>,
 }
 

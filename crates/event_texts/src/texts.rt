@@ -19,7 +19,9 @@ use std::marker::Model;
 /// An accepted event: its number, and the JSON text that it goes on as.
 #[derive(Drop)]
 pub struct EventText {
+    /// The event's number, from 1.
     pub number: u64,
+    /// One JSON object.
     pub text: Bytes,
 }
 

@@ -8,59 +8,86 @@ use std::alloc::AllocError;
 /// Which event an expression begins at: the one that started the run or the wait, or the one that came later.
 #[derive(Clone, Copy, Debug, PartialEq, Eq)]
 pub enum Source {
+    /// `event`: the event that started the run or the wait.
     Event,
+    /// `async`: the event that came later.
     Async,
 }
 
 /// A sign before its operand: `!` or `-`.
 #[derive(Clone, Copy, Debug, PartialEq, Eq)]
 pub enum Sign {
+    /// `!`.
     Not,
+    /// `-`.
     Minus,
 }
 
 /// An operator between its operands.
 #[derive(Clone, Copy, Debug, PartialEq, Eq)]
 pub enum Operator {
+    /// `||`.
     Or,
+    /// `&&`.
     And,
+    /// `<`.
     Less,
+    /// `<=`.
     LessOrEqual,
+    /// `>`.
     Greater,
+    /// `>=`.
     GreaterOrEqual,
+    /// `==`.
     Equal,
+    /// `!=`.
     NotEqual,
+    /// `in`.
     In,
+    /// `+`.
     Plus,
+    /// `-`.
     Minus,
+    /// `*`.
     Times,
+    /// `/`.
     Divide,
+    /// `%`.
     Remainder,
 }
 
 /// A function of one argument.
 #[derive(Clone, Copy, Debug, PartialEq, Eq)]
 pub enum Function {
+    /// `size(a)`: how many characters, items or members.
     Size,
+    /// `string(a)`: as a text.
     String,
 }
 
 /// A method of a text, with a text as its argument.
 #[derive(Clone, Copy, Debug, PartialEq, Eq)]
 pub enum Method {
+    /// `a.startsWith(b)`.
     StartsWith,
+    /// `a.endsWith(b)`.
     EndsWith,
+    /// `a.contains(b)`.
     Contains,
 }
 
 /// The tree of an expression, a variant for each form of the grammar. Contracts see it by `tree_of`.
 #[derive(Drop)]
 pub enum Term {
+    /// `null`.
     Null,
+    /// `true` or `false`.
     Bool(bool),
     /// In units of 10^-18, never negative.
     Number(i128),
+    /// A string by its value.
     Text(Bytes),
+    /// `event` or `async`.
     Source(Source),
     /// `( .. )`.
     Group(Box<Term>),
@@ -76,7 +103,9 @@ pub enum Term {
     Call(Function, Box<Term>),
     /// `a.startsWith(b)` and the like.
     Method(Method, Box<Term>, Box<Term>),
+    /// `!a`, `-a`.
     Unary(Sign, Box<Term>),
+    /// `a + b` and the like.
     Binary(Operator, Box<Term>, Box<Term>),
     /// `c ? a : b`.
     Choice(Box<Term>, Box<Term>, Box<Term>),

@@ -6,7 +6,10 @@ use lists::Bytes;
 /// application that registered it.
 #[derive(Drop)]
 pub struct FunctionEntry {
+    /// From 1.
     pub version: u64,
+    /// The name of the application.
     pub app: Bytes,
+    /// The function as it was registered.
     pub function: Function,
 }

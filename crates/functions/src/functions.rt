@@ -27,6 +27,7 @@ impl Model for Functions {
 /// What a registration made of the functions.
 #[derive(Drop)]
 pub struct Registered {
+    /// Those that are current now.
     pub functions: Functions,
     /// How many versions were given so far.
     pub versions: u64,

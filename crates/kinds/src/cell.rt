@@ -13,9 +13,11 @@ pub enum Cell {
         place: u8,
         value: Bytes,
     },
+    /// A concurrency limit of the environment.
     Env {
         value: Bytes,
     },
+    /// A concurrency limit of the account.
     Account {
         value: Bytes,
     },
@@ -33,7 +35,9 @@ pub enum Cell {
 /// A cell, and how many calls of it may be open at once.
 #[derive(Clone, PartialEq, Eq, PartialOrd, Ord, Drop)]
 pub struct CellLimit {
+    /// What is counted.
     pub cell: Cell,
+    /// From 1 to 1,000,000.
     pub limit: u32,
 }
 
@@ -43,7 +47,9 @@ pub type CellLimits = Items<CellLimit>;
 /// An open issue, and the cells that it counts in.
 #[derive(Drop)]
 pub struct IssueEntry {
+    /// The number of the call.
     pub issue: u64,
+    /// Each cell once.
     pub cells: CellLimits,
 }
 
@@ -51,6 +57,8 @@ pub struct IssueEntry {
 /// starts `s`, with `m` the starts from `s` on and `T` the period divided by the limit, rounded up.
 #[derive(Drop)]
 pub struct StartEntry {
+    /// A throttle's cell.
     pub cell: Cell,
+    /// In milliseconds since 1970.
     pub greatest: u64,
 }

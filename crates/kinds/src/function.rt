@@ -5,17 +5,22 @@ use lists::{Bytes, Items};
 /// What one registration says of an application.
 #[derive(Drop)]
 pub struct App {
+    /// By which a later registration replaces this one.
     pub name: Bytes,
+    /// In the order of the registration.
     pub functions: Items<Function>,
 }
 
 /// A function of an application. Periods and timeouts are milliseconds, from 1 to 366 days.
 #[derive(Clone, PartialEq, Eq, Drop)]
 pub struct Function {
+    /// What callers and other functions name it by.
     pub id: Bytes,
     /// One to ten.
     pub triggers: Items<Trigger>,
+    /// The host of the application's URL.
     pub host: Bytes,
+    /// The port of the application's URL.
     pub port: u16,
     /// The path of the application's URL, with its `/` in front.
     pub path: Bytes,
@@ -25,9 +30,13 @@ pub struct Function {
     pub retries: u8,
     /// At most two.
     pub limits: Items<Limit>,
+    /// How often its runs start.
     pub throttle: Option<Throttle>,
+    /// Whether its runs wait for quiet.
     pub debounce: Option<Debounce>,
+    /// Whether its runs gather events.
     pub batch: Option<Batch>,
+    /// How many seconds its runs go before others, from -600 to 600.
     pub priority: Option<Expr>,
     /// At most five.
     pub cancels: Items<CancelEntry>,
@@ -36,7 +45,9 @@ pub struct Function {
 /// An event of this name starts a run where the condition is true, or absent.
 #[derive(Clone, PartialEq, Eq, Drop)]
 pub struct Trigger {
+    /// The event's name.
     pub event: Bytes,
+    /// Over the event alone.
     pub cond: Option<Expr>,
 }
 
@@ -45,7 +56,9 @@ pub struct Trigger {
 pub enum Scope {
     /// The function's own.
     Own,
+    /// All functions' with limits of the environment.
     Env,
+    /// All functions' with limits of the account.
     Account,
 }
 
@@ -56,7 +69,9 @@ pub struct Limit {
     pub place: u8,
     /// From 1 to 1,000,000.
     pub limit: u32,
+    /// Whose calls count.
     pub scope: Scope,
+    /// Over the event that starts the run. Each value has a count of its own.
     pub key: Option<Expr>,
 }
 
@@ -65,18 +80,22 @@ pub struct Limit {
 pub struct Throttle {
     /// From 1 to 1,000,000.
     pub limit: u32,
+    /// In milliseconds.
     pub period: u64,
     /// From 1 to 1,000,000.
     pub burst: u32,
+    /// Over the event that starts the run. Each value is throttled apart.
     pub key: Option<Expr>,
 }
 
 /// A run starts when no event of one key has come for a period, with the last of them.
 #[derive(Clone, PartialEq, Eq, Drop)]
 pub struct Debounce {
+    /// In milliseconds.
     pub period: u64,
     /// The longest that the first event waits.
     pub timeout: Option<u64>,
+    /// Over the event. Each value has a window of its own.
     pub key: Option<Expr>,
 }
 
@@ -85,14 +104,18 @@ pub struct Debounce {
 pub struct Batch {
     /// From 1 to 100.
     pub size: u8,
+    /// How long the first event waits, in milliseconds.
     pub timeout: u64,
+    /// Over the event. Each value has a window of its own.
     pub key: Option<Expr>,
 }
 
 /// An event of this name cancels a run where the condition is true, or absent.
 #[derive(Clone, PartialEq, Eq, Drop)]
 pub struct CancelEntry {
+    /// The event's name.
     pub event: Bytes,
+    /// Over the run's first event and the one that cancels.
     pub cond: Option<Expr>,
     /// How long after its start a run can be cancelled so.
     pub timeout: Option<u64>,

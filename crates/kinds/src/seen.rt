@@ -5,7 +5,10 @@ use lists::Bytes;
 /// since 1970.
 #[derive(Drop)]
 pub struct SeenEntry {
+    /// Never empty.
     pub id: Bytes,
+    /// The event's number.
     pub number: u64,
+    /// When it was accepted.
     pub moment: u64,
 }

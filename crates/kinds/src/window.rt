@@ -5,7 +5,9 @@ use lists::Bytes;
 /// How a function gathers events before its run starts.
 #[derive(Drop)]
 pub enum WindowRule {
+    /// They wait until none has come for a while.
     Debounce(Debounce),
+    /// They wait until they are enough.
     Batch(Batch),
 }
 

@@ -18,18 +18,22 @@ use std::collections::BTreeSet;
 /// A run that has not ended, or is among the last thousand that have.
 #[derive(Clone, Copy)]
 pub struct RunView<'a> {
+    /// The run's number.
     pub number: u64,
     /// When it was made, in milliseconds since 1970.
     pub moment: u64,
     /// The id of its function.
     pub function: &'a [u8],
+    /// Where it stands.
     pub status: RunStatus,
+    /// The numbers of its events, in order.
     pub events: &'a [u64],
 }
 
 /// A call that is open, as who replies to it needs it.
 #[derive(Clone, Copy, Debug, PartialEq, Eq)]
 pub struct OpenCall {
+    /// The call's number.
     pub call: u64,
     /// Whether steps of its run are recorded.
     pub has_results: bool,

@@ -11,7 +11,9 @@ use std::alloc::Global;
 /// of their buckets, where they have any.
 #[derive(Clone, PartialEq, Eq, PartialOrd, Ord, Drop)]
 pub struct Field {
+    /// The event's name.
     pub name: Bytes,
+    /// The names of members, from the outermost in.
     pub path: Option<Items<Bytes>>,
 }
 

@@ -13,7 +13,9 @@ use throttle::Starts;
 /// lets a run start at the moment.
 #[derive(Drop)]
 pub struct Admission<'a> {
+    /// The open calls by cell.
     pub cells: &'a ConcurrencyKeys,
+    /// The starts of throttles.
     pub throttle: &'a Starts,
 }
 

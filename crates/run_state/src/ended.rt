@@ -4,8 +4,11 @@ use kinds::RunStatus;
 /// How a run ended. It keeps nothing of the run, and nothing can be recorded in it.
 #[derive(Clone, Copy, Debug, PartialEq, Eq)]
 pub enum Ended {
+    /// With an output.
     Completed,
+    /// With an error.
     Failed,
+    /// From outside.
     Cancelled,
 }
 

@@ -20,11 +20,13 @@ const MOST: usize = 1_000;
 /// A run that has ended.
 #[derive(Drop)]
 pub struct EndedRun {
+    /// The run's number.
     pub run: u64,
     /// When it was made, in milliseconds since 1970.
     pub moment: u64,
     /// The id of its function.
     pub function: Bytes,
+    /// How it ended.
     pub status: RunStatus,
     /// The numbers of its events, in order.
     pub events: Numbers,

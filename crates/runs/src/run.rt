@@ -24,6 +24,7 @@ const MOST_BYTES: u64 = 4_194_304;
 /// What a run is made with.
 #[derive(Drop)]
 pub struct Origin {
+    /// The run's number.
     pub number: u64,
     /// When it is made, in milliseconds since 1970.
     pub moment: u64,

@@ -5,10 +5,13 @@ use lists::Bytes;
 /// What a call to an application is made of.
 #[derive(Clone, Copy)]
 pub struct CallParts<'a> {
+    /// The function that is called.
     pub function: &'a Function,
     /// `step`, to find out what comes next, or the name of a planned step.
     pub target: &'a [u8],
+    /// The id of the run.
     pub run_id: [u8; 36],
+    /// From 0 for the first.
     pub attempt: u8,
     /// Whether a step of the run was planned.
     pub planned: bool,
@@ -23,5 +26,6 @@ pub struct CallParts<'a> {
 pub struct CallText {
     /// The path with its query.
     pub path: Bytes,
+    /// One JSON object.
     pub body: Bytes,
 }
