@@ -1,10 +1,10 @@
 // One operation.
-ghost use Rattle.std.specs.Prelude.{◌≡◌, IfOk, IfSome, option_map, true};
+ghost use Rattle.std.specs.Prelude.{◌≡◌, IfOk, IfSome, Some, option_map};
 ghost use Rattle.json_text.specs.Nodes.{IsNodeOf, value_at};
-ghost use Rattle.step_ids.specs.Step.{is_step_name};
+ghost use Rattle.kinds.specs.declared.reply.Op.TheVariants.{StepPlanned};
 ghost use Rattle.sdk_reply.specs.Found.{AreThere, parts_at};
 ghost use Rattle.sdk_reply.specs.Ops.{IsAdded};
-ghost use Rattle.sdk_reply.specs.Operations.{op_by, op_from, op_of, op_with, run_of, sleep};
+ghost use Rattle.sdk_reply.specs.Operations.{error_of, op_by, op_from, op_of, op_with, run_of, sleep};
 ghost use Rattle.sdk_reply.specs.Operations.{wait_for, wait_for_event, wait_until, wait_where};
 ghost use Rattle.sdk_reply.specs.Operations.{invoke, invoke_function, invoke_within};
 
@@ -49,8 +49,25 @@ fn push_members(
     ensures { IfOk result (IsAdded ops.old (op_from (parts_at tree.now members.now)) ops.new) }
 {
     match plain_name(tree, members.id) {
-        Some(name) => push_named(ops, alloc, tree, members, name),
-        None => push_read(ops, read_operation(alloc, tree, members)?),
+        Some(name) => push_named(ops, alloc, tree, members, step_hash(name)),
+        None => push_escaped(ops, alloc, tree, members),
+    }
+}
+
+/// The same, where the step's name may have escapes.
+#[inline(never)]
+fn push_escaped(
+    ops: &mut Items<Op>,
+    alloc: Global,
+    tree: &Tree<'_>,
+    members: &OpMembers,
+) -> Result<bool, Memory>
+    requires { AreThere tree.now members.now }
+    ensures { IfOk result (IsAdded ops.old (op_from (parts_at tree.now members.now)) ops.new) }
+{
+    match hash_in(tree, members.id)? {
+        Some(hash) => push_named(ops, alloc, tree, members, hash),
+        None => Ok(false),
     }
 }
 
@@ -59,14 +76,13 @@ fn push_named(
     alloc: Global,
     tree: &Tree<'_>,
     members: &OpMembers,
-    name: &[u8],
+    hash: StepHash,
 ) -> Result<bool, Memory>
-    requires members { AreThere tree.now members.now }
-    requires name { is_step_name name.now ≡ true }
-    ensures { IfOk result (IsAdded ops.old (op_with (parts_at tree.now members.now) name.now) ops.new) }
+    requires { AreThere tree.now members.now }
+    ensures { IfOk result (IsAdded ops.old (op_with (parts_at tree.now members.now) hash) ops.new) }
 {
     match members.op {
-        Some(op) => push_word(ops, alloc, tree, members, name, word_in(tree, op)?),
+        Some(op) => push_word(ops, alloc, tree, members, hash, word_in(tree, op)?),
         None => Ok(false),
     }
 }
@@ -76,17 +92,21 @@ fn push_word(
     alloc: Global,
     tree: &Tree<'_>,
     members: &OpMembers,
-    name: &[u8],
+    hash: StepHash,
     word: OpWord,
 ) -> Result<bool, Memory>
-    requires members { AreThere tree.now members.now }
-    requires name { is_step_name name.now ≡ true }
+    requires { AreThere tree.now members.now }
     ensures { IfOk result
-        (IsAdded ops.old (op_by word name.now (parts_at tree.now members.now)) ops.new) }
+        (IsAdded ops.old (op_by word hash (parts_at tree.now members.now)) ops.new) }
 {
     match word {
-        OpWord::Ran => push_run(ops, alloc, tree, members.data, name),
-        word => push_read(ops, op_by(alloc, tree, members, step_hash(name), word)?),
+        OpWord::Ran => push_run(ops, alloc, tree, members.data, hash),
+        OpWord::Failed => push_error(ops, alloc, tree, members.error, hash),
+        OpWord::Planned => push_plan(ops, hash),
+        OpWord::Sleeps => push_sleep(ops, tree, members, hash),
+        OpWord::Waits => wait_for_event(ops, alloc, tree, members, hash),
+        OpWord::Invokes => invoke_function(ops, alloc, tree, members, hash),
+        OpWord::Unknown => Ok(false),
     }
 }
 
@@ -95,20 +115,111 @@ fn push_run(
     alloc: Global,
     tree: &Tree<'_>,
     output: Option<Node>,
-    name: &[u8],
+    hash: StepHash,
 ) -> Result<bool, Memory>
-    requires output { IfSome output (IsNodeOf tree.now) }
-    requires name { is_step_name name.now ≡ true }
+    requires { IfSome output (IsNodeOf tree.now) }
     ensures { IfOk result
-        (IsAdded ops.old (run_of name.now (option_map (value_at tree.now) output)) ops.new) }
+        (IsAdded ops.old (run_of hash (option_map (value_at tree.now) output)) ops.new) }
 {
     let value = slice_or_null(alloc, tree, output)?;
-    let hash = step_hash(name);
     ops.push(Op::StepRun { hash, value })?;
     Ok(true)
 }
 
+fn push_error(
+    ops: &mut Items<Op>,
+    alloc: Global,
+    tree: &Tree<'_>,
+    given: Option<Node>,
+    hash: StepHash,
+) -> Result<bool, Memory>
+    requires { IfSome given (IsNodeOf tree.now) }
+    ensures { IfOk result
+        (IsAdded ops.old (error_of hash (option_map (value_at tree.now) given)) ops.new) }
+{
+    let error = slice_or_null(alloc, tree, given)?;
+    ops.push(Op::StepError { hash, error })?;
+    Ok(true)
+}
+
+fn push_plan(ops: &mut Items<Op>, hash: StepHash) -> Result<bool, Memory>
+    ensures { IfOk result (IsAdded ops.old (Some (StepPlanned hash)) ops.new) }
+{
+    ops.push(Op::StepPlanned { hash })?;
+    Ok(true)
+}
+
+fn push_sleep(
+    ops: &mut Items<Op>,
+    tree: &Tree<'_>,
+    members: &OpMembers,
+    hash: StepHash,
+) -> Result<bool, Memory>
+    requires { AreThere tree.now members.now }
+    ensures { IfOk result (IsAdded ops.old (sleep hash (parts_at tree.now members.now)) ops.new) }
+{
+    match time_in(tree, option_or_name(tree, members, b"duration"))? {
+        Some(time) => {
+            ops.push(Op::Sleep { hash, time })?;
+            Ok(true)
+        }
+        None => Ok(false),
+    }
+}
+
 #[inline(never)]
+fn wait_for_event(
+    ops: &mut Items<Op>,
+    alloc: Global,
+    tree: &Tree<'_>,
+    members: &OpMembers,
+    hash: StepHash,
+) -> Result<bool, Memory>
+    requires { AreThere tree.now members.now }
+    ensures { IfOk result
+        (IsAdded ops.old (wait_for_event hash (parts_at tree.now members.now)) ops.new) }
+{
+    match name_in(tree, option_or_name(tree, members, b"event"))? {
+        Some(event) => wait_for(ops, alloc, tree, members, hash, event),
+        None => Ok(false),
+    }
+}
+
+fn wait_for(
+    ops: &mut Items<Op>,
+    alloc: Global,
+    tree: &Tree<'_>,
+    members: &OpMembers,
+    hash: StepHash,
+    event: Bytes,
+) -> Result<bool, Memory>
+    requires { AreThere tree.now members.now }
+    ensures { IfOk result (IsAdded ops.old
+        (wait_for hash (option_map (value_at tree.now) members.now.opts) event) ops.new) }
+{
+    match time_in(tree, option_of(tree, members.opts, b"timeout"))? {
+        Some(timeout) => wait_until(ops, alloc, tree, members, hash, event, timeout),
+        None => Ok(false),
+    }
+}
+
+fn wait_until(
+    ops: &mut Items<Op>,
+    alloc: Global,
+    tree: &Tree<'_>,
+    members: &OpMembers,
+    hash: StepHash,
+    event: Bytes,
+    timeout: Time,
+) -> Result<bool, Memory>
+    requires { AreThere tree.now members.now }
+    ensures { IfOk result (IsAdded ops.old
+        (wait_until hash (option_map (value_at tree.now) members.now.opts) event timeout) ops.new) }
+{
+    let condition = optional_condition(alloc, tree, option_of(tree, members.opts, b"if"))?;
+    push_read(ops, wait_where(hash, event, timeout, condition))
+}
+
 fn push_read(ops: &mut Items<Op>, op: Option<Op>) -> Result<bool, Memory>
     ensures { IfOk result (IsAdded ops.old op ops.new) }
 {
@@ -119,121 +230,6 @@ fn push_read(ops: &mut Items<Op>, op: Option<Op>) -> Result<bool, Memory>
         }
         None => Ok(false),
     }
-}
-
-/// The operation that has these members. None where it isn't valid.
-#[inline(never)]
-fn read_operation(alloc: Global, tree: &Tree<'_>, members: &OpMembers) -> Result<Option<Op>, Memory>
-    requires { AreThere tree.now members.now }
-    ensures { IfOk result (λ op. op ≡ op_from (parts_at tree.now members.now)) }
-{
-    match hash_in(tree, members.id)? {
-        Some(hash) => op_with(alloc, tree, members, hash),
-        None => Ok(None),
-    }
-}
-
-fn op_with(
-    alloc: Global,
-    tree: &Tree<'_>,
-    members: &OpMembers,
-    hash: StepHash,
-) -> Result<Option<Op>, Memory>
-    requires { AreThere tree.now members.now }
-    ensures { IfOk result (λ op. op ≡ op_with (parts_at tree.now members.now) hash) }
-{
-    match members.op {
-        Some(op) => op_by(alloc, tree, members, hash, word_in(tree, op)?),
-        None => Ok(None),
-    }
-}
-
-#[inline(never)]
-fn op_by(
-    alloc: Global,
-    tree: &Tree<'_>,
-    members: &OpMembers,
-    hash: StepHash,
-    word: OpWord,
-) -> Result<Option<Op>, Memory>
-    requires { AreThere tree.now members.now }
-    ensures { IfOk result (λ op. op ≡ op_by word hash (parts_at tree.now members.now)) }
-{
-    match word {
-        OpWord::Ran => Ok(Some(Op::StepRun {
-            hash,
-            value: slice_or_null(alloc, tree, members.data)?,
-        })),
-        OpWord::Failed => Ok(Some(Op::StepError {
-            hash,
-            error: slice_or_null(alloc, tree, members.error)?,
-        })),
-        OpWord::Planned => Ok(Some(Op::StepPlanned { hash })),
-        OpWord::Sleeps => sleep(tree, members, hash),
-        OpWord::Waits => wait_for_event(alloc, tree, members, hash),
-        OpWord::Invokes => invoke_function(alloc, tree, members, hash),
-        OpWord::Unknown => Ok(None),
-    }
-}
-
-#[inline(never)]
-fn sleep(tree: &Tree<'_>, members: &OpMembers, hash: StepHash) -> Result<Option<Op>, Memory>
-    requires { AreThere tree.now members.now }
-    ensures { IfOk result (λ op. op ≡ sleep hash (parts_at tree.now members.now)) }
-{
-    match time_in(tree, option_or_name(tree, members, b"duration"))? {
-        Some(time) => Ok(Some(Op::Sleep { hash, time })),
-        None => Ok(None),
-    }
-}
-
-#[inline(never)]
-fn wait_for_event(
-    alloc: Global,
-    tree: &Tree<'_>,
-    members: &OpMembers,
-    hash: StepHash,
-) -> Result<Option<Op>, Memory>
-    requires { AreThere tree.now members.now }
-    ensures { IfOk result (λ op. op ≡ wait_for_event hash (parts_at tree.now members.now)) }
-{
-    match name_in(tree, option_or_name(tree, members, b"event"))? {
-        Some(event) => wait_for(alloc, tree, members, hash, event),
-        None => Ok(None),
-    }
-}
-
-fn wait_for(
-    alloc: Global,
-    tree: &Tree<'_>,
-    members: &OpMembers,
-    hash: StepHash,
-    event: Bytes,
-) -> Result<Option<Op>, Memory>
-    requires { AreThere tree.now members.now }
-    ensures { IfOk result
-        (λ op. op ≡ wait_for hash (option_map (value_at tree.now) members.now.opts) event) }
-{
-    match time_in(tree, option_of(tree, members.opts, b"timeout"))? {
-        Some(timeout) => wait_until(alloc, tree, members, hash, event, timeout),
-        None => Ok(None),
-    }
-}
-
-fn wait_until(
-    alloc: Global,
-    tree: &Tree<'_>,
-    members: &OpMembers,
-    hash: StepHash,
-    event: Bytes,
-    timeout: Time,
-) -> Result<Option<Op>, Memory>
-    requires { AreThere tree.now members.now }
-    ensures { IfOk result
-        (λ op. op ≡ wait_until hash (option_map (value_at tree.now) members.now.opts) event timeout) }
-{
-    let condition = optional_condition(alloc, tree, option_of(tree, members.opts, b"if"))?;
-    Ok(wait_where(hash, event, timeout, condition))
 }
 
 fn wait_where(hash: StepHash, event: Bytes, timeout: Time, condition: Part<Expr>) -> Option<Op>
@@ -254,35 +250,37 @@ fn wait_where(hash: StepHash, event: Bytes, timeout: Time, condition: Part<Expr>
 
 #[inline(never)]
 fn invoke_function(
+    ops: &mut Items<Op>,
     alloc: Global,
     tree: &Tree<'_>,
     members: &OpMembers,
     hash: StepHash,
-) -> Result<Option<Op>, Memory>
+) -> Result<bool, Memory>
     requires { AreThere tree.now members.now }
-    ensures { IfOk result
-        (λ op. op ≡ invoke_function hash (option_map (value_at tree.now) members.now.opts)) }
+    ensures { IfOk result (IsAdded ops.old
+        (invoke_function hash (option_map (value_at tree.now) members.now.opts)) ops.new) }
 {
     match text_in(tree, option_of(tree, members.opts, b"function_id"))? {
-        Some(function) => invoke(alloc, tree, members, hash, function),
-        None => Ok(None),
+        Some(function) => invoke(ops, alloc, tree, members, hash, function),
+        None => Ok(false),
     }
 }
 
 fn invoke(
+    ops: &mut Items<Op>,
     alloc: Global,
     tree: &Tree<'_>,
     members: &OpMembers,
     hash: StepHash,
     function: Bytes,
-) -> Result<Option<Op>, Memory>
+) -> Result<bool, Memory>
     requires { AreThere tree.now members.now }
-    ensures { IfOk result
-        (λ op. op ≡ invoke hash (option_map (value_at tree.now) members.now.opts) function) }
+    ensures { IfOk result (IsAdded ops.old
+        (invoke hash (option_map (value_at tree.now) members.now.opts) function) ops.new) }
 {
     let payload = slice_in(alloc, tree, option_of(tree, members.opts, b"payload"))?;
     let timeout = optional_time(tree, option_of(tree, members.opts, b"timeout"))?;
-    Ok(invoke_within(hash, function, payload, timeout))
+    push_read(ops, invoke_within(hash, function, payload, timeout))
 }
 
 fn invoke_within(
