@@ -17,7 +17,7 @@ use crate::calls::Calls;
 use crate::issue::{CallLimit, Issue};
 use crate::waiting::Waiting;
 use concurrency_keys::ConcurrencyKeys;
-use kinds::{Cell, Item, StepHash, Steps};
+use kinds::{Cell, CellLimits, Item, Shared, StepHash, Steps};
 use lists::Memory;
 use std::alloc::Global;
 use std::marker::Model;
@@ -54,7 +54,7 @@ impl Model for Admission {
 }
 
 /// A run starts, where it has a throttle's cell.
-fn start_at(starts: &mut Starts, start: &Option<Cell>, t: u64) -> Result<(), Memory>
+fn start_at(starts: &mut Starts, start: &Option<Shared<Cell>>, t: u64) -> Result<(), Memory>
     requires start { IsStart start.now }
     requires moment { t ≤ last_moment }
     requires allowed { may_start start.now t starts.old ≡ true }
@@ -64,7 +64,7 @@ fn start_at(starts: &mut Starts, start: &Option<Cell>, t: u64) -> Result<(), Mem
     let Some(cell) = start else {
         return Ok(());
     };
-    starts.start(cell, t)?;
+    starts.start(cell.get(), t)?;
     Ok(())
 }
 
@@ -145,6 +145,18 @@ impl Admission {
     {
         self.waiting.add(item)?;
         Ok(())
+    }
+
+    /// The cells and the start of a run, in the memory of a queued item that has equal ones and is due, where
+    /// there is one.
+    pub fn intern(
+        &self,
+        cells: CellLimits,
+        start: Option<Shared<Cell>>,
+    ) -> (CellLimits, Option<Shared<Cell>>)
+        ensures { result ≡ (cells, start) }
+    {
+        self.waiting.intern(cells, start)
     }
 
     /// Drops the items of a run. Looks at these alone.

@@ -12,7 +12,7 @@ ghost use Rattle.admission.specs.Items.{is_item_of, without_item};
 
 use crate::place::{Place, Targets, first_of, first_of_run, part_of};
 use concurrency_keys::ConcurrencyKeys;
-use kinds::{CellLimits, Item, Steps};
+use kinds::{Cell, CellLimits, Item, Shared, Steps};
 use lists::Memory;
 use ready_queue::{Entries, ParkingQueue};
 use std::alloc::Global;
@@ -90,6 +90,17 @@ impl Waiting {
         ensures { option_copied result ≡ find (has_number number) self.now.items }
     {
         self.queue.get(number)
+    }
+
+    /// The cells and the start, in the memory of an item that has equal ones and is due, where there is one.
+    pub(crate) fn intern(
+        &self,
+        cells: CellLimits,
+        start: Option<Shared<Cell>>,
+    ) -> (CellLimits, Option<Shared<Cell>>)
+        ensures { result ≡ (cells, start) }
+    {
+        self.queue.intern(cells, start)
     }
 
     /// Takes an item out.

@@ -6,7 +6,7 @@ ghost use Rattle.kinds.specs.Cells.{IsThrottle, IsStart};
 ghost use Rattle.admission.specs.declared.issue.Issue.{Issue};
 
 use admission::Admission;
-use kinds::{Cell, CellLimit, CellLimits, Item, StepHash, Steps};
+use kinds::{Cell, CellLimit, CellLimits, Item, Shared, StepHash, Steps};
 use lists::{Bytes, Items, Memory};
 use std::alloc::Global;
 use std::marker::Brand;
@@ -26,7 +26,7 @@ fn cells(alloc: Global, value: u8) -> Result<CellLimits, Memory> {
         },
         limit: 1,
     })?;
-    Ok(limits)
+    CellLimits::new(alloc, limits)
 }
 
 /// A throttle that lets a run start each second.
@@ -66,7 +66,7 @@ fn item(
     run: u64,
     target: &[u8],
     value: u8,
-    start: Option<Cell>,
+    start: Option<Shared<Cell>>,
 ) -> Result<Item, Memory>
     requires { IsStart start }
     ensures { IfOk result (λ i. IsStart i.start) }
@@ -135,7 +135,7 @@ fn queue_new(
     run: u64,
     target: &[u8],
     value: u8,
-    start: Option<Cell>,
+    start: Option<Shared<Cell>>,
 ) -> Result<(), Memory>
     requires { IsStart start }
 {
@@ -164,7 +164,7 @@ fn perform<L: Ledger>(
         Act::Next(run, value) => queue_new(alloc, admission, number, run, b"step", value, None),
         Act::Step(run, value) => queue_new(alloc, admission, number, run, &NAME, value, None),
         Act::Start(run, value) => {
-            let start = Some(throttle(alloc)?);
+            let start = Some(Shared::new(alloc, throttle(alloc)?)?);
             queue_new(alloc, admission, number, run, b"step", value, start)
         }
         Act::Issue(call) => issue(admission, call, steps),

@@ -1,6 +1,7 @@
 // The store of open issues and of the cells that they count in.
 ghost use Rattle.std.specs.Prelude.{◌≡◌, [], true, find, None, OnOk, OnErr};
 ghost use Rattle.kinds.specs.Cells.{are_free, is_full, has_issue, without_issue, insert_issue};
+ghost use Rattle.concurrency_keys.specs.Counts.{IsLoweredAll};
 
 use crate::Entries;
 use crate::counters::Counters;
@@ -29,6 +30,13 @@ impl Model for ConcurrencyKeys {
     ghost view = { λ k. values k.issues };
 
     ghost invariant = { λ k. IsCounted k.issues.entries k.counters };
+}
+
+/// What ended counts no more.
+fn uncount(counters: &mut Counters, entry: IssueEntry)
+    ensures { IsLoweredAll entry.cells counters.old counters.new }
+{
+    counters.lower_all(entry.cells.as_slice());
 }
 
 impl ConcurrencyKeys {
@@ -83,7 +91,7 @@ impl ConcurrencyKeys {
         ensures { self.new ≡ without_issue issue self.old }
     {
         if let Some(entry) = self.issues.remove(&issue) {
-            self.counters.lower_all(entry.cells.as_slice());
+            uncount(&mut self.counters, entry);
         }
     }
 

@@ -16,7 +16,7 @@ fn env(alloc: Global, value: &[u8], limit: u32) -> Result<CellLimit, Memory> {
 fn one(alloc: Global, limit: CellLimit) -> Result<CellLimits, Memory> {
     let mut limits = Items::new(alloc);
     limits.push(limit)?;
-    Ok(limits)
+    CellLimits::new(alloc, limits)
 }
 
 #[test]
@@ -44,8 +44,10 @@ fn issues_count_in_their_cells(rt: HostRuntime) -> Result<(), Fail> {
 #[test]
 fn a_cell_named_twice_counts_once(rt: HostRuntime) -> Result<(), Fail> {
     let mut keys = ConcurrencyKeys::empty(rt.alloc());
-    let mut twice = one(rt.alloc(), env(rt.alloc(), b"sa", 3)?)?;
-    twice.push(env(rt.alloc(), b"sa", 2)?)?;
+    let mut limits = Items::new(rt.alloc());
+    limits.push(env(rt.alloc(), b"sa", 3)?)?;
+    limits.push(env(rt.alloc(), b"sa", 2)?)?;
+    let twice = CellLimits::new(rt.alloc(), limits)?;
     let wide = one(rt.alloc(), env(rt.alloc(), b"sa", 3)?)?;
     assert!(rt; keys.free(&twice));
     keys.enter(1, &twice)?;

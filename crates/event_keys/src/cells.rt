@@ -6,8 +6,8 @@ ghost use Rattle.event_keys.specs.Cells.{cell_of, cell_with, cells_of, lesser_at
 
 use crate::ReadEvent;
 use expr::Expr;
-use kinds::{Cell, CellLimit, CellLimits, Function, Limit, Scope, Throttle};
-use lists::{Bytes, Memory};
+use kinds::{Cell, CellLimit, CellLimits, Function, Limit, Scope, Shared, Throttle};
+use lists::{Bytes, Items, Memory};
 use std::alloc::Global;
 
 impl<'a> ReadEvent<'a> {
@@ -15,7 +15,14 @@ impl<'a> ReadEvent<'a> {
     pub fn cells_of(&self, alloc: Global, function: &Function) -> Result<CellLimits, Memory>
         ensures { IfOk result (λ cells. cells ≡ cells_of function.now self.now) }
     {
-        let mut cells = CellLimits::with_room(alloc, function.limits.len())?;
+        let cells = self.limits_of(alloc, function)?;
+        CellLimits::new(alloc, cells)
+    }
+
+    fn limits_of(&self, alloc: Global, function: &Function) -> Result<Items<CellLimit>, Memory>
+        ensures { IfOk result (λ cells. cells ≡ cells_of function.now self.now) }
+    {
+        let mut cells = Items::with_room(alloc, function.limits.len())?;
         for limit in function.limits.as_slice() {
             let cell = self.cell_of(alloc, &function.id, limit)?;
             let added = CellLimit {
@@ -35,11 +42,18 @@ impl<'a> ReadEvent<'a> {
     }
 
     /// The cell of the function's throttle in which the start of the run counts, where it has one.
-    pub fn start_of(&self, alloc: Global, function: &Function) -> Result<Option<Cell>, Memory>
+    pub fn start_of(
+        &self,
+        alloc: Global,
+        function: &Function,
+    ) -> Result<Option<Shared<Cell>>, Memory>
         ensures { IfOk result (λ cell. cell ≡ start_of function.now self.now) }
     {
         match &function.throttle {
-            Some(throttle) => Ok(Some(self.throttle_cell(alloc, &function.id, throttle)?)),
+            Some(throttle) => {
+                let cell = self.throttle_cell(alloc, &function.id, throttle)?;
+                Ok(Some(Shared::new(alloc, cell)?))
+            }
             None => Ok(None),
         }
     }
@@ -88,7 +102,11 @@ fn cell_with(scope: Scope, function: &Bytes, place: u8, value: Bytes) -> Result<
 }
 
 // A cell stands once, with the lesser limit.
-fn with_limit(alloc: Global, cells: CellLimits, added: CellLimit) -> Result<CellLimits, Memory>
+fn with_limit(
+    alloc: Global,
+    cells: Items<CellLimit>,
+    added: CellLimit,
+) -> Result<Items<CellLimit>, Memory>
     ensures { IfOk result (λ all. all ≡ with_limit cells added) }
 {
     if has_cell(&added.cell, cells.as_slice()) {
@@ -105,10 +123,14 @@ fn has_cell(cell: &Cell, limits: &[CellLimit]) -> bool
     limits.iter().any(|l| cell.cmp(&l.cell).is_eq())
 }
 
-fn lowered(alloc: Global, cells: CellLimits, added: &CellLimit) -> Result<CellLimits, Memory>
+fn lowered(
+    alloc: Global,
+    cells: Items<CellLimit>,
+    added: &CellLimit,
+) -> Result<Items<CellLimit>, Memory>
     ensures { IfOk result (λ all. all ≡ lowered added.now cells) }
 {
-    let mut all = CellLimits::with_room(alloc, cells.len())?;
+    let mut all = Items::with_room(alloc, cells.len())?;
     for other in cells {
         all.push(lesser_at(added, other))?;
     }

@@ -244,7 +244,7 @@ fn of_function(
         text.push_decimal(cell.limit as u64)?;
     }
     if let Some(cell) = first.start_of(alloc, &function)? {
-        push_cell(&mut text, &cell)?;
+        push_cell(&mut text, cell.get())?;
     }
     Ok(text)
 }

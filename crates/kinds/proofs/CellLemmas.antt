@@ -2,17 +2,14 @@
 use Rattle.std.proofs.Common.{◌≡◌, ℕ, ◌<◌, List, [], ◌∷◌, Option, Some, None, refl, ap, ap₂, subst}
 use Rattle.std.specs.Cmp.{IsTotalOrder}
 use Rattle.std.specs.Cmp.Lexicographic.{slice_cmp}
-use Rattle.std.specs.List.{AllZip}
 use Rattle.std.specs.Option.{option_cmp}
 use Rattle.std.specs.Ordering.{nat_cmp, ordering_then, MatchOrdering}
 use Rattle.std.specs.declared.cmp.Ordering.{Ordering}
 use Rattle.std.specs.declared.cmp.Ordering.TheVariants.{Less, Equal, Greater}
 use Rattle.std.proofs.lemmas.Cmp.{ranked}
-use Rattle.std.proofs.lemmas.List.Elements.{same_from_all_zip}
 use Rattle.kinds.specs.Cells.{cell_cmp}
 use Rattle.kinds.specs.Queue.{limit_cmp, group_cmp}
 use Rattle.kinds.specs.contracts.cell.CellClone.TheImpl as cell_copies
-use Rattle.kinds.specs.contracts.cell.CellLimitClone.TheImpl as limit_copies
 use Rattle.kinds.specs.contracts.cell.CellOrd.TheImpl.Laws as cell_laws
 use Rattle.kinds.specs.declared.cell.Cell.{Cell}
 use Rattle.kinds.specs.declared.cell.Cell.TheVariants.{Own, Env, Account, Throttle}
@@ -100,9 +97,3 @@ cell_same (Throttle f l p b None v) (Throttle g m q c (Some j) w) h = absurd h.1
 cell_same (Throttle f l p b (Some k) v) (Throttle g m q c None w) h = absurd h.1.1.1.1.0
 cell_same (Throttle f l p b (Some k) v) (Throttle g m q c (Some j) w) h = cc
 cell_same a b h = absurd h
-
-limit_same : (a b : CellLimit) → limit_copies.ghosts.is_clone a b → b ≡ a
-limit_same a b h = ap₂ (λ c n. record { cell = c; limit = n }) (cell_same a.cell b.cell h.0) h.1
-
-pub limits_same : (a b : List CellLimit) → AllZip limit_copies.ghosts.is_clone a b → b ≡ a
-limits_same a b h = same_from_all_zip limit_copies.ghosts.is_clone a b h limit_same

@@ -8,5 +8,6 @@ pub mod Queue
 pub mod Refusal
 pub mod RunSteps
 pub mod Seen
+pub mod Shared
 pub mod Stores
 pub mod Windows

@@ -1,5 +1,6 @@
 // Cells that limits count in, and what is kept of them.
-use lists::{Bytes, Items};
+use crate::SharedItems;
+use lists::Bytes;
 
 /// What a limit counts for: a function, an environment or an account, and the value of the limit's key.
 ///
@@ -41,8 +42,8 @@ pub struct CellLimit {
     pub limit: u32,
 }
 
-/// The concurrency cells of a run, each once.
-pub type CellLimits = Items<CellLimit>;
+/// The concurrency cells of a run, each once. A run and its calls share them.
+pub type CellLimits = SharedItems<CellLimit>;
 
 /// An open issue, and the cells that it counts in.
 #[derive(Drop)]

@@ -1,5 +1,5 @@
 // The entries of the machine's stores.
-use crate::{Cell, CellLimits, Numbers, StepHash};
+use crate::{Cell, CellLimits, Numbers, Shared, StepHash};
 use expr::Expr;
 use lists::{Bytes, Items};
 
@@ -81,7 +81,7 @@ pub struct Item {
     /// The cells that the call counts in.
     pub cells: CellLimits,
     /// The throttle's cell, where the run hasn't started and has one.
-    pub start: Option<Cell>,
+    pub start: Option<Shared<Cell>>,
 }
 
 /// The step of a run that invoked another run, and waits for its end.

@@ -15,7 +15,7 @@ use crate::Parts;
 use event_keys::ReadEvent;
 use expr::Expr;
 use functions::FunctionEntry;
-use kinds::{Bucket, CancelEntry, Cell, CellLimits, Function, Item, Numbers, Parent, Rule};
+use kinds::{Bucket, CancelEntry, Cell, CellLimits, Function, Item, Numbers, Parent, Rule, Shared};
 use lists::{Bytes, Items, Memory};
 use runs::{Origin, Run};
 use std::alloc::Global;
@@ -37,7 +37,7 @@ struct Draft {
 pub(crate) struct Plan {
     version: u64,
     cells: CellLimits,
-    start: Option<Cell>,
+    start: Option<Shared<Cell>>,
     shift: i64,
     rules: Items<Draft>,
 }
@@ -92,7 +92,29 @@ impl Parts {
             return Ok(None);
         };
         let text = self.texts.text_or_none(first);
-        Ok(Some(plan_of(self.alloc, entry, text, self.moment)?))
+        let plan = plan_of(self.alloc, entry, text, self.moment)?;
+        Ok(Some(self.share(plan)))
+    }
+
+    // The plan, with its cells in the memory of those of a queued item, where they are equal.
+    fn share(&self, plan: Plan) -> Plan
+        ensures { result ≡ plan }
+    {
+        let Plan {
+            version,
+            cells,
+            start,
+            shift,
+            rules,
+        } = plan;
+        let (cells, start) = self.admission.intern(cells, start);
+        Plan {
+            version,
+            cells,
+            start,
+            shift,
+            rules,
+        }
     }
 
     // The run that has the next number is there from now on, with its first item.
@@ -182,7 +204,7 @@ impl Parts {
             attempt: 0,
             due: self.moment,
             score: run.score(),
-            cells: cells_of(self.alloc, run)?,
+            cells: run.cells().clone()?,
             start: start_of(run)?,
         })
     }
@@ -290,18 +312,8 @@ fn new_draft(
     })
 }
 
-fn cells_of(alloc: Global, run: &Run) -> Result<CellLimits, Memory>
-    ensures { IfOk result (λ cells. cells ≡ run.now.cells) }
-{
-    let mut cells = CellLimits::with_room(alloc, run.cells().len())?;
-    for limit in run.cells() {
-        cells.push(limit.clone()?)?;
-    }
-    Ok(cells)
-}
-
 // The throttle's cell, where the run hasn't started.
-fn start_of(run: &Run) -> Result<Option<Cell>, Memory>
+fn start_of(run: &Run) -> Result<Option<Shared<Cell>>, Memory>
     ensures { IfOk result (λ start. start ≡ unless run.now.started run.now.start) }
 {
     match run.start() {

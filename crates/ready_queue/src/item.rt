@@ -1,13 +1,14 @@
 // Items compared, and the groups that they are of.
 ghost use Rattle.std.specs.Prelude.{◌≡◌, ◌≤◌, nat_le, ◌&&◌, IfOk};
 ghost use Rattle.std.specs.BTreeMap.{values};
+ghost use Rattle.std.specs.Option.{option_copied};
 ghost use Rattle.std.specs.Ordering.{is_lt};
 ghost use Rattle.kinds.specs.Queue.{item_cmp, same_group, group_of};
 ghost use Rattle.ready_queue.specs.Heads.{has_lesser};
 ghost use Rattle.ready_queue.specs.Store.{IsScore, lifted};
 
 use crate::boxed::BoxedItem;
-use kinds::{Cell, CellLimits, Item};
+use kinds::{Cell, CellLimits, Item, Shared};
 use lists::Memory;
 use std::collections::BTreeMap;
 
@@ -50,10 +51,20 @@ pub(crate) fn lifted(item: &Item) -> u64
     item.score.abs_diff(i64::MIN)
 }
 
-/// The cells with limits and the start of the items of a group.
-pub(crate) type Group = (CellLimits, Option<Cell>);
+/// The throttle's cell of an item.
+pub(crate) fn start_of(item: &Item) -> Option<&Cell>
+    ensures { option_copied result ≡ item.now.start }
+{
+    match &item.start {
+        Some(start) => Some(start.get()),
+        None => None,
+    }
+}
 
-fn copy_of_start(start: &Option<Cell>) -> Result<Option<Cell>, Memory>
+/// The cells with limits and the start of the items of a group.
+pub(crate) type Group = (CellLimits, Option<Shared<Cell>>);
+
+fn copy_of_start(start: &Option<Shared<Cell>>) -> Result<Option<Shared<Cell>>, Memory>
     ensures { IfOk result (λ copy. copy ≡ start.now) }
 {
     match start {

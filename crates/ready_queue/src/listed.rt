@@ -184,6 +184,13 @@ impl Listed {
         self.pool.first_of(group)
     }
 
+    /// The group, in the memory of the equal one that has items, where there is one.
+    pub(crate) fn intern(&self, group: Group) -> Group
+        ensures { result ≡ group }
+    {
+        self.pool.intern(group)
+    }
+
     /// The groups, each with its number.
     pub(crate) fn names(&self) -> &BTreeMap<Group, u64>
         ensures { result.now.entries ≡ self.now.ready.held.names }

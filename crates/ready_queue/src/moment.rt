@@ -24,7 +24,7 @@ pub(crate) fn moment_of(
     match &item.start {
         Some(start) => {
             if cells.free(&item.cells) {
-                Some(throttle.release_moment(start))
+                Some(throttle.release_moment(start.get()))
             } else {
                 None
             }

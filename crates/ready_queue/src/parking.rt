@@ -17,7 +17,7 @@ use crate::listed::Listed;
 use crate::lot::{Lot, put_at, put_till, unpark_all};
 use crate::{Admission, Entries};
 use concurrency_keys::ConcurrencyKeys;
-use kinds::{Cell, CellLimit, CellLimits, Item, Steps};
+use kinds::{Cell, CellLimit, CellLimits, Item, Shared, Steps};
 use lists::Memory;
 use std::alloc::Global;
 use std::collections::BTreeMap;
@@ -59,7 +59,7 @@ fn full_limit<'a>(limits: &'a [CellLimit], cells: &ConcurrencyKeys) -> Option<&'
 }
 
 /// The moment at which a start is let, where that is to come.
-fn held_till(start: &Option<Cell>, t: u64, throttle: &Starts) -> Option<u64>
+fn held_till(start: &Option<Shared<Cell>>, t: u64, throttle: &Starts) -> Option<u64>
     requires { IsStart start.now }
     ensures coming { IfSome result (λ m. t < m) }
     ensures held { (cells : List CellLimit)
@@ -68,7 +68,7 @@ fn held_till(start: &Option<Cell>, t: u64, throttle: &Starts) -> Option<u64>
     let Some(cell) = start else {
         return None;
     };
-    let moment = throttle.release_moment(cell);
+    let moment = throttle.release_moment(cell.get());
     if moment <= t {
         return None;
     }
@@ -99,6 +99,17 @@ impl ParkingQueue {
     {
         self.listed.add(item)?;
         Ok(())
+    }
+
+    /// The cells and the start, in the memory of an item that has equal ones and is due, where there is one.
+    pub fn intern(
+        &self,
+        cells: CellLimits,
+        start: Option<Shared<Cell>>,
+    ) -> (CellLimits, Option<Shared<Cell>>)
+        ensures { result ≡ (cells, start) }
+    {
+        self.listed.intern((cells, start))
     }
 
     /// Takes an item out.

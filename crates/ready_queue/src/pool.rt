@@ -336,6 +336,13 @@ impl Pool {
         Some(item)
     }
 
+    /// The group, in the memory of the equal one that has items, where there is one.
+    pub(crate) fn intern(&self, group: Group) -> Group
+        ensures { result ≡ group }
+    {
+        self.ready.intern(group)
+    }
+
     /// The groups, each with its number.
     pub(crate) fn names(&self) -> &BTreeMap<Group, u64>
         ensures { result.now.entries ≡ self.now.ready.held.names }

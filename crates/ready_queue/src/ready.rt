@@ -163,6 +163,19 @@ impl Ready {
         self.index.front()
     }
 
+    /// The group, in the memory of the equal one that has items, where there is one.
+    pub(crate) fn intern(&self, group: Group) -> Group
+        ensures { result ≡ group }
+    {
+        let Some((known, _name)) = self.names.get_key_value(&group) else {
+            return group;
+        };
+        match copy_of(known) {
+            Ok(copy) => copy,
+            Err(_) => group,
+        }
+    }
+
     /// The groups, each with its number.
     pub(crate) fn names(&self) -> &BTreeMap<Group, u64>
         ensures { result.now.entries ≡ self.now.held.names }

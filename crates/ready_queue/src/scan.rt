@@ -10,7 +10,7 @@ ghost use Rattle.ready_queue.specs.Heads.{leads, joined, rank, least_rank, secon
 
 use crate::Gate;
 use crate::boxed::BoxedItem;
-use crate::item::has_lesser;
+use crate::item::{has_lesser, start_of};
 use kinds::{Item, Steps};
 use std::collections::BTreeMap;
 use std::sync::ledger::Ledger;
@@ -59,7 +59,7 @@ fn step<G: Gate, L: Ledger>(
     if has_lesser(items, item, t) {
         return best;
     }
-    if gate.open(&item.cells, item.start.as_ref(), t, steps) {
+    if gate.open(&item.cells, start_of(item), t, steps) {
         Some(rank_of(item))
     } else {
         best

@@ -11,6 +11,7 @@ ghost use Rattle.ready_queue.specs.Opens.{opens, HaveStarts};
 
 use crate::Gate;
 use crate::boxed::{BoxedItem, find_at};
+use crate::item::start_of;
 use kinds::Steps;
 use std::collections::{BTreeMap, BTreeSet};
 use std::sync::ledger::Ledger;
@@ -62,7 +63,7 @@ fn is_open<G: Gate, L: Ledger>(
     ensures asked { steps.new ≤ steps.old + 1 }
 {
     match find_at(items, number) {
-        Some(item) => gate.open(&item.cells, item.start.as_ref(), t, steps),
+        Some(item) => gate.open(&item.cells, start_of(item), t, steps),
         None => false,
     }
 }

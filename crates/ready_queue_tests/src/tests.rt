@@ -4,7 +4,7 @@ ghost use Rattle.std.specs.Prelude.{◌≡◌, ◌<◌, ◌≤◌, [], IfOk};
 ghost use Rattle.kinds.specs.Cells.{IsThrottle, IsStart, last_moment};
 
 use concurrency_keys::ConcurrencyKeys;
-use kinds::{Cell, CellLimit, CellLimits, Item, Steps};
+use kinds::{Cell, CellLimit, CellLimits, Item, Shared, Steps};
 use lists::{Bytes, Items, Memory};
 use ready_queue::{Admission, Gate, ParkingQueue, ReadyQueue};
 use std::alloc::Global;
@@ -23,7 +23,7 @@ fn cells(alloc: Global, value: u8) -> Result<CellLimits, Memory> {
         cell: Cell::Env { value },
         limit: 1,
     })?;
-    Ok(limits)
+    CellLimits::new(alloc, limits)
 }
 
 /// A throttle that lets a run start each second.
@@ -63,7 +63,7 @@ fn item(alloc: Global, number: u64, row: &Row) -> Result<Item, Memory>
 }
 
 /// The item waits for a start.
-fn throttled(mut item: Item, start: Cell) -> Item
+fn throttled(mut item: Item, start: Shared<Cell>) -> Item
     requires { IsThrottle start }
     ensures { IsStart result.start }
 {
@@ -274,6 +274,7 @@ fn one_throttled(alloc: Global) -> Result<ParkingQueue, Memory>
     ensures later { IfOk result (λ q. q.later ≡ []) }
 {
     let start = throttle(alloc)?;
+    let start = Shared::new(alloc, start)?;
     let item = throttled(item(alloc, 1, &(5, 0, b'a'))?, start);
     let mut queue = ParkingQueue::empty(alloc);
     put_parking(&mut queue, item)?;

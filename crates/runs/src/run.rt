@@ -12,7 +12,7 @@ use crate::boxed_steps::BoxedSteps;
 use crate::rare::boxed;
 use crate::results::state_too_large;
 use kinds::{
-    Cell, CellLimit, CellLimits, Numbers, Parent, Pending, StepEntry, StepHash, error_object,
+    Cell, CellLimits, Numbers, Parent, Pending, Shared, StepEntry, StepHash, error_object,
 };
 use lists::{Bytes, Memory};
 use std::alloc::Global;
@@ -35,7 +35,7 @@ pub struct Origin {
     /// Its concurrency cells with their limits, each cell once.
     pub cells: CellLimits,
     /// Its throttle's cell.
-    pub start: Option<Cell>,
+    pub start: Option<Shared<Cell>>,
     /// So many seconds it goes before others of its moment, from -600 to 600.
     pub shift: i64,
     /// The step that invoked it.
@@ -52,7 +52,7 @@ pub struct Run {
     version: u64,
     events: Numbers,
     cells: CellLimits,
-    start: Option<Box<Cell>>,
+    start: Option<Shared<Cell>>,
     shift: i64,
     wanted: bool,
     planned: bool,
@@ -76,7 +76,7 @@ impl Model for Run {
       version = r.version;
       events = r.events;
       cells = r.cells;
-      start = unboxed r.start;
+      start = r.start;
       shift = r.shift;
       wanted = r.wanted;
       planned = r.planned;
@@ -104,7 +104,6 @@ impl Run {
             shift,
             parent,
         } = origin;
-        let start = boxed(alloc, start)?;
         let parent = boxed(alloc, parent)?;
         Ok(Run {
             alloc,
@@ -159,20 +158,17 @@ impl Run {
     }
 
     /// Its concurrency cells with their limits.
-    pub fn cells(&self) -> &[CellLimit]
+    pub fn cells(&self) -> &CellLimits
         ensures { result.now ≡ self.now.cells }
     {
-        self.cells.as_slice()
+        &self.cells
     }
 
     /// Its throttle's cell.
-    pub fn start(&self) -> Option<&Cell>
+    pub fn start(&self) -> Option<&Shared<Cell>>
         ensures { option_copied result ≡ self.now.start }
     {
-        match &self.start {
-            Some(cell) => Some(&**cell),
-            None => None,
-        }
+        self.start.as_ref()
     }
 
     /// In the order of scores runs of one moment go, and those of others: the lesser comes first. It is

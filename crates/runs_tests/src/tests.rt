@@ -1,7 +1,7 @@
 ghost use Rattle.std.specs.Prelude.{◌≡◌, ◌<◌, [], IfOk};
 ghost use Rattle.std.specs.List.{AllByRecursion};
 
-use kinds::{Numbers, Parent, Pending, RunStatus, StepHash};
+use kinds::{CellLimits, Numbers, Parent, Pending, RunStatus, StepHash};
 use lists::{Bytes, Items, Memory};
 use runs::{EndedRun, EndedRuns, Naming, Origin, Run, Runs, error_result};
 use std::alloc::Global;
@@ -53,7 +53,7 @@ fn made(alloc: Global, number: u64, events: u64) -> Result<Run, Memory>
         moment: 5_000,
         version: number % 2,
         events: numbers(alloc, number, events)?,
-        cells: Items::new(alloc),
+        cells: CellLimits::new(alloc, Items::new(alloc))?,
         start: None,
         shift: 3,
         parent: Some(Parent {

@@ -14,11 +14,11 @@ pub returns-then-open : goal.returns-then-open
 returns-then-open g c =
     let step = step_open c.args.t (values c.args.items.now) (g.G.Gate.is_open c.args.gate.now c.args.t) c.args.item.now c.args.best c.args.steps.now c.open.new.steps
     c.if-item-t.false (sym c.has_lesser.ensures ∙ c.if-has_lesser.false) c.if-stops.ensures.goes_on
-    (ap (g.G.Gate.is_open c.args.gate.now c.args.t c.args.item.now.cells) (sym c.as_ref.ensures.value) ∙ sym c.open.ensures.told ∙ c.if-open.true) c.open.ensures.asked in
+    (ap (g.G.Gate.is_open c.args.gate.now c.args.t c.args.item.now.cells) (sym c.start_of.ensures) ∙ sym c.open.ensures.told ∙ c.if-open.true) c.open.ensures.asked in
     (ap Some c.rank_of.ensures ∙ step.0, step.1)
 
 pub returns-else-open : goal.returns-else-open
 returns-else-open g c =
     step_closed c.args.t (values c.args.items.now) (g.G.Gate.is_open c.args.gate.now c.args.t) c.args.item.now c.args.best c.args.steps.now c.open.new.steps
     c.if-item-t.false (sym c.has_lesser.ensures ∙ c.if-has_lesser.false)
-    (ap (g.G.Gate.is_open c.args.gate.now c.args.t c.args.item.now.cells) (sym c.as_ref.ensures.value) ∙ sym c.open.ensures.told ∙ c.if-open.false) c.open.ensures.asked
+    (ap (g.G.Gate.is_open c.args.gate.now c.args.t c.args.item.now.cells) (sym c.start_of.ensures) ∙ sym c.open.ensures.told ∙ c.if-open.false) c.open.ensures.asked

@@ -6,7 +6,7 @@ pub returns-in-Some-clause-told : goal.returns-in-Some-clause-told
 unfolding opens
 returns-in-Some-clause-told g c =
     c.open.ensures.told
-    ∙ ap (g.G.Gate.is_open c.args.gate.now c.args.t c.in-Some.item.now.cells) c.as_ref.ensures.value
+    ∙ ap (g.G.Gate.is_open c.args.gate.now c.args.t c.in-Some.item.now.cells) c.start_of.ensures
     ∙ ap (opens_for (g.G.Gate.is_open c.args.gate.now c.args.t)) c.in-Some.ensures.value
 
 pub returns-in-None-clause-told : goal.returns-in-None-clause-told

@@ -1,20 +1,19 @@
-use Rattle.std.proofs.Common.{◌∙◌, ap, subst}
+use Rattle.std.proofs.Common.{◌∙◌, ap}
 use Rattle.kinds.specs.Cells.{without_issue}
-use Rattle.concurrency_keys.specs.Counts.{IsLoweredAll}
 use Rattle.concurrency_keys.proofs.CountLemmas.{counted_left, counted_none}
 use Rattle.concurrency_keys.proofs.keys.ConcurrencyKeys.leave.Goals as goal
 
 pub invariant_of-self : goal.invariant_of-self
 invariant_of-self c =
-    (counted_left c.self.inside.issues.entries c.remove.new.self.entries c.args.issue c.in-Some.entry c.self.inside.counters c.lower_all.new.self c.self.invariant
+    (counted_left c.self.inside.issues.entries c.remove.new.self.entries c.args.issue c.in-Some.entry c.self.inside.counters c.uncount.new.counters c.self.invariant
     c.in-Some.ensures.value c.in-Some.ensures.entries c.in-Some.ensures.ordered
-    (subst (λ xs. IsLoweredAll xs c.self.inside.counters c.lower_all.new.self) c.as_slice.ensures c.lower_all.ensures)).1
+    c.uncount.ensures).1
 
 pub returns-in-Some : goal.returns-in-Some
 returns-in-Some c =
-    (counted_left c.self.inside.issues.entries c.remove.new.self.entries c.args.issue c.in-Some.entry c.self.inside.counters c.lower_all.new.self c.self.invariant
+    (counted_left c.self.inside.issues.entries c.remove.new.self.entries c.args.issue c.in-Some.entry c.self.inside.counters c.uncount.new.counters c.self.invariant
     c.in-Some.ensures.value c.in-Some.ensures.entries c.in-Some.ensures.ordered
-    (subst (λ xs. IsLoweredAll xs c.self.inside.counters c.lower_all.new.self) c.as_slice.ensures c.lower_all.ensures)).0
+    c.uncount.ensures).0
     ∙ ap (without_issue c.args.issue) c.self.view_is
 
 pub returns-in_default : goal.returns-in_default

@@ -1,6 +1,6 @@
 use Rattle.std.proofs.Common.{◌≡◌, drop}
 use Rattle.event_keys.specs.Cells.{cells_of, cells_with}
-use Rattle.event_keys.proofs.read_event.ReadEvent.cells_of.Given as goal
+use Rattle.event_keys.proofs.read_event.ReadEvent.limits_of.Given as goal
 
 -- the limits that are left, put beside the cells so far
 abbrev pub invariant-loop-limit : goal.invariant-loop-limit
